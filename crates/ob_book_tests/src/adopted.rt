@@ -83,46 +83,28 @@ fn adopts_by(
     adopts_within(rt, alloc, &mut book, (first, then), most)
 }
 
-// Checks the same without a limit on the searches.
-fn adopts_after(rt: &impl Abort, alloc: Global, first: &str, then: &str) -> Result<(), Fail> {
-    adopts_by(rt, alloc, first, then, u128::MAX)
-}
+// Scripts on the two feeders, another one after each, and the most searches for that.
+const ADOPTED: &'static [(&'static str, &'static str, u128)] = &[
+    (OUTAGE, OPENED_BEFORE, 5),
+    (OUTAGE, CORRECTED, 2),
+    ("", RELABELLED, u128::MAX),
+    (OUTAGE, WITHDRAWN, 4),
+    (OUTAGE, TIE_GOES, 3),
+    (OUTAGE, JOINS_IN_OUTAGE, 3),
+    (BREAKER_GONE, OPENED_IN_ITS_LAST_SECOND, 4),
+];
+
+const CORRECTED: &'static str =
+    "correct 4 1 close 1704073800 3 K1 => cause 3 -1200, feeder 1 -1200, day 0 -1200";
+
+const WITHDRAWN: &'static str = "withdraw 3 1 => cause 3 246600, feeder 1 246600, day 0 246600";
 
 #[test]
-fn an_opening_entered_late(rt: HostRuntime) -> Result<(), Fail> {
-    adopts_after(&rt, rt.alloc(), OUTAGE, OPENED_BEFORE)
-}
-
-#[test]
-fn a_closing_corrected(rt: HostRuntime) -> Result<(), Fail> {
-    let line = "correct 4 1 close 1704073800 3 K1 => cause 3 -1200, feeder 1 -1200, day 0 -1200";
-    adopts_after(&rt, rt.alloc(), OUTAGE, line)
-}
-
-#[test]
-fn a_run_that_goes_on_past_the_next_entry(rt: HostRuntime) -> Result<(), Fail> {
-    adopts_after(&rt, rt.alloc(), "", RELABELLED)
-}
-
-#[test]
-fn a_closing_withdrawn(rt: HostRuntime) -> Result<(), Fail> {
-    let line = "withdraw 3 1 => cause 3 246600, feeder 1 246600, day 0 246600";
-    adopts_after(&rt, rt.alloc(), OUTAGE, line)
-}
-
-#[test]
-fn the_tie_goes_while_it_supplies(rt: HostRuntime) -> Result<(), Fail> {
-    adopts_by(&rt, rt.alloc(), OUTAGE, TIE_GOES, 3)
-}
-
-#[test]
-fn a_tie_joins_after_an_outage_began(rt: HostRuntime) -> Result<(), Fail> {
-    adopts_by(&rt, rt.alloc(), OUTAGE, JOINS_IN_OUTAGE, 3)
-}
-
-#[test]
-fn opened_in_the_last_second_of_its_life(rt: HostRuntime) -> Result<(), Fail> {
-    adopts_by(&rt, rt.alloc(), BREAKER_GONE, OPENED_IN_ITS_LAST_SECOND, 4)
+fn each_change_is_adopted_once(rt: HostRuntime) -> Result<(), Fail> {
+    for (first, then, most) in ADOPTED {
+        adopts_by(&rt, rt.alloc(), first, then, *most)?;
+    }
+    Ok(())
 }
 
 // The number that a command is about: the code of a cause, or the number of a node, a device, a

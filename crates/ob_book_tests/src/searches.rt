@@ -1,8 +1,7 @@
 //! Tests of how often the network is searched for a late change of the switching log, and for a
-//! change of the network.
+//! change of the network; further ones are in `adopted.rt`.
 use crate::example::tell;
 use crate::feeders::{OUTAGE, TWO_FEEDERS};
-use crate::lives::{BREAKER_GONE, JOINS_IN_OUTAGE, OPENED_IN_ITS_LAST_SECOND, TIE_GOES};
 use crate::step::{ONE_DAY, Step};
 use std::alloc::Global;
 use std::process::Abort;
@@ -24,19 +23,6 @@ fn takes<'t>(
     tell(rt, alloc, ONE_DAY, &steps)
 }
 
-#[test]
-fn for_an_opening_entered_late(rt: HostRuntime) -> Result<(), Fail> {
-    let line =
-        "switch W1 open 1704070200 4 K1 => cause 3 -1800, cause 4 3600, feeder 1 1800, day 0 1800";
-    takes(&rt, rt.alloc(), OUTAGE, line, 5)
-}
-
-#[test]
-fn for_a_closing_corrected(rt: HostRuntime) -> Result<(), Fail> {
-    let line = "correct 4 1 close 1704073800 3 K1 => cause 3 -1200, feeder 1 -1200, day 0 -1200";
-    takes(&rt, rt.alloc(), OUTAGE, line, 2)
-}
-
 // W1 is closed while B1 is open, so it ends no outage interval.
 const WAITING: &'static str = "\
 switch B1 open 1704070800 3 K1 => cause 3 414000, feeder 1 414000, day 0 414000
@@ -51,22 +37,8 @@ fn for_a_run_that_goes_on_past_the_next_entry(rt: HostRuntime) -> Result<(), Fai
     takes(&rt, rt.alloc(), WAITING, line, 4)
 }
 
-#[test]
-fn for_a_closing_withdrawn(rt: HostRuntime) -> Result<(), Fail> {
-    let line = "withdraw 3 1 => cause 3 246600, feeder 1 246600, day 0 246600";
-    takes(&rt, rt.alloc(), OUTAGE, line, 4)
-}
-
-#[test]
-fn for_an_opening_in_the_last_second_of_a_life(rt: HostRuntime) -> Result<(), Fail> {
-    takes(&rt, rt.alloc(), BREAKER_GONE, OPENED_IN_ITS_LAST_SECOND, 4)
-}
-
-// After the outage the searches are at the end of the tie's life or the beginning of a device's,
-// and at the entry after it. If no life changes in a second of the period, there is no search.
+// After the outage: if no life changes in a second of the period, there is no search.
 const OF_THE_NETWORK: &'static [(&'static str, u128)] = &[
-    (TIE_GOES, 3),
-    (JOINS_IN_OUTAGE, 3),
     ("device X1 BUS-A S1 closed 1704153600 -", 0),
     ("life T1 0 -", 0),
     ("life T1 1704067200 1704153600", 0),

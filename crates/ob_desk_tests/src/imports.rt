@@ -7,9 +7,6 @@ const UNPROCESSABLE: &'static str = "422 Unprocessable Entity";
 const NAME_TAKEN: &'static str =
     "{\"added\":3,\"again\":0,\"stopped\":{\"name\":\"NameTaken\",\"refused\":3,\"row\":4}}";
 
-const NO_HEADER: &'static str =
-    "{\"added\":0,\"again\":0,\"stopped\":{\"detail\":0,\"name\":\"BadField\",\"refused\":1,\"row\":0}}";
-
 // A row is refused, and then changed.
 const CHANGED: &[Row] = &[
     (
@@ -32,24 +29,6 @@ const CHANGED: &[Row] = &[
 #[test]
 fn a_row_stops_and_is_changed(rt: HostRuntime) -> Result<(), AllocError> {
     are_answered(&rt, rt.alloc(), CHANGED, 4)
-}
-
-const WITHOUT_ROWS: &[Row] = &[
-    (
-        Ask::Post("/import", ""),
-        Ok(1),
-        Reply::Json(UNPROCESSABLE, NO_HEADER),
-    ),
-    (
-        Ask::Post("/import", "kind,ref,f1,f2,f3,f4,f5,f6\n"),
-        Ok(1),
-        Reply::Json("200 OK", "{\"added\":0,\"again\":0,\"stopped\":null}"),
-    ),
-];
-
-#[test]
-fn texts_without_rows(rt: HostRuntime) -> Result<(), AllocError> {
-    are_answered(&rt, rt.alloc(), WITHOUT_ROWS, 0)
 }
 
 // A cause, a bus, and two sections of one name.
@@ -102,10 +81,3 @@ switch,N23,W1,open,1704071400,3,K1,
 switch,N24,T1,close,1704071400,3,K1,
 switch,N25,B1,close,1704074400,3,K1,
 ";
-
-/// The outage, with which a script begins.
-pub const TAKES_OUTAGE: Row = (
-    Ask::Post("/import", OUTAGE),
-    Ok(1),
-    Reply::Json("200 OK", "{\"added\":25,\"again\":0,\"stopped\":null}"),
-);

@@ -8,8 +8,6 @@
 #![tactic(auto)]
 
 #[cfg(test)]
-mod answers;
-#[cfg(test)]
 mod commands;
 #[cfg(test)]
 mod desk;
@@ -33,8 +31,6 @@ mod requests;
 mod retries;
 #[cfg(test)]
 mod script;
-#[cfg(test)]
-mod stories;
 #[cfg(test)]
 mod streams;
 #[cfg(test)]

@@ -2,6 +2,7 @@
 //! then the desk serves.
 use crate::desk::{Desk, Trial, over_a_store};
 use crate::log::Log;
+use crate::texts::LAST_NOTHING;
 use ob_base::Fault;
 use ob_desk::Unserved;
 use std::alloc::{AllocError, Global};
@@ -20,10 +21,6 @@ HTTP/1.1 200 OK\r\nContent-Type: application/json\r\nContent-Length: 19\r\nConne
 
 const TOTALS: &'static [u8] =
     b"GET /totals HTTP/1.1\r\nHost: localhost\r\nConnection: close\r\n\r\n";
-
-const EMPTY_TOTALS: &'static [u8] = b"\
-HTTP/1.1 200 OK\r\nContent-Type: application/json\r\nContent-Length: 43\r\nConnection: close\r\n\r\n\
-{\"cause\":[],\"day\":[],\"feeder\":[],\"total\":0}";
 
 const CUT: &'static [u8] = b"POST /commands HTTP/1.1\r\nHost: a\r\nContent-Length: 49\r\n\r\n{";
 
@@ -172,7 +169,7 @@ fn a_cut_stream_and_the_next(rt: HostRuntime) -> Result<(), AllocError> {
 }
 
 // A client that asks only for the totals of the empty book.
-const ASKS: Client = (TOTALS, false, Some(EMPTY_TOTALS));
+const ASKS: Client = (TOTALS, false, Some(LAST_NOTHING));
 
 // The first two of three clients are served, and the stream of the third can still be accepted.
 const TWO_OF_THREE: Case = Case {

@@ -1,5 +1,5 @@
 //! Tests of replies, and of commands as JSON. Expected texts are written by hand from the form of
 //! replies.
 mod bodies;
-mod bytes;
 mod commands;
+mod statuses;

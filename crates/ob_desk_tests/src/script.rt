@@ -1,6 +1,7 @@
 //! Streams in their order, and the answer to each.
-use crate::desk::{Desk, Trial, over_a_book, told};
-use crate::texts::{STORM, get, json, many, post};
+use crate::desk::{Desk, Trial, over_a_book, over_a_store, told};
+use crate::imports::OUTAGE;
+use crate::texts::{GET_ALONE, NOT_FOUND, POST_ALONE, STORM, get, json, many, post};
 use ob_base::Fault;
 use std::alloc::{AllocError, Global};
 use std::process::Abort;
@@ -10,8 +11,6 @@ pub type Many = (&'static [u8], &'static [u8], u32, &'static [u8]);
 
 /// The bytes of a stream.
 pub enum Ask {
-    /// A GET of a path.
-    Get(&'static str),
     /// A POST to a path, with a body.
     Post(&'static str, &'static str),
     /// These bytes.
@@ -44,7 +43,6 @@ pub struct Script<'r> {
 
 fn bytes_of_ask(alloc: Global, ask: &Ask) -> Result<Vec<u8>, AllocError> {
     match ask {
-        Ask::Get(path) => get(alloc, path),
         Ask::Post(path, body) => post(alloc, path, body),
         Ask::Text(bytes) => bytes.to_vec(alloc),
         Ask::Last(bytes) => many(alloc, &(bytes, b"", 0, STORM)),
@@ -96,4 +94,73 @@ pub fn are_answered(
 ) -> Result<(), AllocError> {
     let commands = Some(commands);
     over_a_book(rt, alloc, &Script { rows, commands })
+}
+
+/// Requests on a stream each, one after the other, on the book of the outage or without a book; and
+/// the number of commands that the book then has. A line has the method, the path and the body, ` => `,
+/// the status of the reply and its body in JSON. A reply with 404 has no body, and one with 405 names
+/// the other method.
+#[derive(Drop)]
+pub struct Lines {
+    lines: &'static str,
+    commands: Option<u32>,
+}
+
+fn bytes_asked(alloc: Global, asked: &str) -> Result<Vec<u8>, AllocError> {
+    let (method, rest) = asked.split_once(" ").unwrap_or((asked, ""));
+    let (path, body) = rest.split_once(" ").unwrap_or((rest, ""));
+    if method == "GET" {
+        get(alloc, path)
+    } else {
+        post(alloc, path, body)
+    }
+}
+
+fn bytes_wanted(alloc: Global, wanted: &str) -> Result<Vec<u8>, AllocError> {
+    let (status, body) = wanted.split_once(" ").unwrap_or((wanted, ""));
+    if status == "404" {
+        NOT_FOUND.to_vec(alloc)
+    } else if status == "405" && body == "GET" {
+        GET_ALONE.to_vec(alloc)
+    } else if status == "405" {
+        POST_ALONE.to_vec(alloc)
+    } else if status == "409" {
+        json(alloc, "409 Conflict", body)
+    } else if status == "422" {
+        json(alloc, "422 Unprocessable Entity", body)
+    } else {
+        json(alloc, "200 OK", body)
+    }
+}
+
+impl Trial for Lines {
+    fn run<A: Abort, D: Desk>(
+        &self,
+        rt: &A,
+        alloc: Global,
+        desk: &mut D,
+    ) -> Result<(), AllocError> {
+        if self.commands.is_some() {
+            assert!(rt; told(alloc, desk, &post(alloc, "/import", OUTAGE)?).end == Ok(1));
+        }
+        for line in self.lines.lines() {
+            let (asked, wanted) = line.split_once(" => ").unwrap_or((line, ""));
+            let text = bytes_asked(alloc, asked)?;
+            let wanted = bytes_wanted(alloc, wanted)?;
+            assert!(rt; told(alloc, desk, &text).is(Ok(1), &wanted), "{line}");
+        }
+        assert!(rt; stands(desk, self.commands));
+        Ok(())
+    }
+}
+
+/// Checks the replies to requests on the book of the outage, or without a book, and the number of
+/// commands that the book then has.
+pub fn lines_are_answered(
+    rt: &impl Abort,
+    alloc: Global,
+    lines: &'static str,
+    commands: Option<u32>,
+) -> Result<(), AllocError> {
+    over_a_store(rt, alloc, commands.is_some(), &Lines { lines, commands })
 }

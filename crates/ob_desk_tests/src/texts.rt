@@ -20,6 +20,11 @@ pub const GET_ALONE: &'static [u8] =
 pub const POST_ALONE: &'static [u8] =
     b"HTTP/1.1 405 Method Not Allowed\r\nContent-Length: 0\r\nAllow: POST\r\n\r\n";
 
+/// The totals of a book without an outage, as the last reply of a stream.
+pub const LAST_NOTHING: &'static [u8] = b"\
+HTTP/1.1 200 OK\r\nContent-Type: application/json\r\nContent-Length: 43\r\nConnection: close\r\n\r\n\
+{\"cause\":[],\"day\":[],\"feeder\":[],\"total\":0}";
+
 /// The reply to a request that can't be answered because of a fault.
 pub const UNAVAILABLE: &'static [u8] =
     b"HTTP/1.1 503 Service Unavailable\r\nContent-Length: 0\r\nConnection: close\r\n\r\n";

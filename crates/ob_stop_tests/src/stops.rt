@@ -77,17 +77,12 @@ fn files_of(rt: &impl Abort, alloc: Global, first: Option<Task>) -> Pair {
     files
 }
 
-// Stops a task in this way over the files that another task leaves.
-fn stopped_over(
-    rt: &impl Abort,
-    alloc: Global,
-    first: Option<Task>,
-    which: Which,
-    task: Task,
-    wanted: u32,
-) {
+// Stops a task in this way over the files that another task leaves: at the calls of the log, and then
+// at those of the database file.
+fn stopped_over(rt: &impl Abort, alloc: Global, first: Option<Task>, task: Task, wanted: u32) {
     let files = files_of(rt, alloc, first);
-    stopped(rt, alloc, &files, which, task, wanted);
+    stopped(rt, alloc, &files, Which::Log, task, wanted);
+    stopped(rt, alloc, &files, Which::Db, task, wanted);
 }
 
 // A book with the outage, and the same with tables of version 1.
@@ -96,113 +91,36 @@ const OUTAGE: Option<Task> = Some(Task::Outage);
 const OLD: Option<Task> = Some(Task::Old);
 
 #[test]
-fn a_command_over_a_log_that_stops(rt: HostRuntime) {
-    stopped_over(
-        &rt,
-        rt.alloc(),
-        OUTAGE,
-        Which::Log,
-        Task::Send(CORRECTION),
-        AFTER,
-    );
+fn a_command_over_files_that_stop(rt: HostRuntime) {
+    stopped_over(&rt, rt.alloc(), OUTAGE, Task::Send(CORRECTION), AFTER);
 }
 
 #[test]
-fn a_command_over_a_database_file_that_stops(rt: HostRuntime) {
-    stopped_over(
-        &rt,
-        rt.alloc(),
-        OUTAGE,
-        Which::Db,
-        Task::Send(CORRECTION),
-        AFTER,
-    );
+fn a_device_that_joins_over_files_that_stop(rt: HostRuntime) {
+    stopped_over(&rt, rt.alloc(), OUTAGE, Task::Send(JOINING), AFTER);
 }
 
 #[test]
-fn a_device_that_joins_over_a_log_that_stops(rt: HostRuntime) {
-    stopped_over(
-        &rt,
-        rt.alloc(),
-        OUTAGE,
-        Which::Log,
-        Task::Send(JOINING),
-        AFTER,
-    );
+fn a_life_over_files_that_stop(rt: HostRuntime) {
+    stopped_over(&rt, rt.alloc(), OUTAGE, Task::Send(LEAVING), AFTER);
 }
 
 #[test]
-fn a_device_that_joins_over_a_database_file_that_stops(rt: HostRuntime) {
-    stopped_over(
-        &rt,
-        rt.alloc(),
-        OUTAGE,
-        Which::Db,
-        Task::Send(JOINING),
-        AFTER,
-    );
+fn a_request_over_files_that_stop(rt: HostRuntime) {
+    stopped_over(&rt, rt.alloc(), OUTAGE, Task::Serve, AFTER);
 }
 
 #[test]
-fn a_life_over_a_log_that_stops(rt: HostRuntime) {
-    stopped_over(
-        &rt,
-        rt.alloc(),
-        OUTAGE,
-        Which::Log,
-        Task::Send(LEAVING),
-        AFTER,
-    );
+fn an_import_over_files_that_stop(rt: HostRuntime) {
+    stopped_over(&rt, rt.alloc(), OUTAGE, Task::Import, IMPORTED);
 }
 
 #[test]
-fn a_life_over_a_database_file_that_stops(rt: HostRuntime) {
-    stopped_over(
-        &rt,
-        rt.alloc(),
-        OUTAGE,
-        Which::Db,
-        Task::Send(LEAVING),
-        AFTER,
-    );
+fn a_new_book_over_files_that_stop(rt: HostRuntime) {
+    stopped_over(&rt, rt.alloc(), None, Task::Make, 1);
 }
 
 #[test]
-fn a_request_over_a_log_that_stops(rt: HostRuntime) {
-    stopped_over(&rt, rt.alloc(), OUTAGE, Which::Log, Task::Serve, AFTER);
-}
-
-#[test]
-fn a_request_over_a_database_file_that_stops(rt: HostRuntime) {
-    stopped_over(&rt, rt.alloc(), OUTAGE, Which::Db, Task::Serve, AFTER);
-}
-
-#[test]
-fn an_import_over_a_log_that_stops(rt: HostRuntime) {
-    stopped_over(&rt, rt.alloc(), OUTAGE, Which::Log, Task::Import, IMPORTED);
-}
-
-#[test]
-fn an_import_over_a_database_file_that_stops(rt: HostRuntime) {
-    stopped_over(&rt, rt.alloc(), OUTAGE, Which::Db, Task::Import, IMPORTED);
-}
-
-#[test]
-fn a_new_book_over_a_log_that_stops(rt: HostRuntime) {
-    stopped_over(&rt, rt.alloc(), None, Which::Log, Task::Make, 1);
-}
-
-#[test]
-fn a_new_book_over_a_database_file_that_stops(rt: HostRuntime) {
-    stopped_over(&rt, rt.alloc(), None, Which::Db, Task::Make, 1);
-}
-
-#[test]
-fn a_migration_over_a_log_that_stops(rt: HostRuntime) {
-    stopped_over(&rt, rt.alloc(), OLD, Which::Log, Task::Migrate, 1);
-}
-
-#[test]
-fn a_migration_over_a_database_file_that_stops(rt: HostRuntime) {
-    stopped_over(&rt, rt.alloc(), OLD, Which::Db, Task::Migrate, 1);
+fn a_migration_over_files_that_stop(rt: HostRuntime) {
+    stopped_over(&rt, rt.alloc(), OLD, Task::Migrate, 1);
 }

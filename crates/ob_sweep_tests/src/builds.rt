@@ -1,13 +1,7 @@
 //! Tests of the outage intervals built from devices' lives and a switching log.
 use crate::example::{Built, DAY, DAY_OF_2024, build};
+use crate::feeders::TAKEN_OVER;
 use std::test::Fail;
-
-const TAKEN_OVER: &'static str = "\
-switch B1 open 3600 3 K1
-switch W1 open 4200 3 K1
-switch T1 close 4200 3 K1
-switch B1 close 7200 3 K1
-";
 
 const CUT_OFF_AGAIN: &'static str = "\
 switch B1 open 3600 3 K1
@@ -44,106 +38,73 @@ switch T1 open 1704072000 3 K1
 
 const BUILT: &'static [Built] = &[
     Built {
-        title: "nothing is switched",
         days: DAY,
         lives: "",
-        script: "",
-        searches: 1,
-        runs: "S4 0 86400 -\n",
+        cases: &[
+            ("", "nothing is switched => 1: S4 0 86400 -;"),
+            (
+                TAKEN_OVER,
+                "the tie takes one section over => \
+                 5: S1 3600 7200 1; S2 3600 4200 1; S4 0 86400 -;",
+            ),
+            (
+                "switch B1 open 4000 3 K1\nswitch B1 close 4000 3 K1",
+                "opened and closed in one second => 3: S4 0 86400 -;",
+            ),
+            (
+                "switch B1 close 4000 3 K1\nswitch B1 open 4000 3 K1",
+                "closed and opened in one second => \
+                 2: S1 4000 86400 2; S2 4000 86400 2; S4 0 86400 -;",
+            ),
+            (
+                "switch W1 open 0 3 K1\nswitch W1 close 1 3 K1",
+                "opened at the first second => 3: S2 0 1 1; S4 0 86400 -;",
+            ),
+            (
+                "switch W1 open 86399 3 K1",
+                "opened at the last second => 2: S2 86399 86400 1; S4 0 86400 -;",
+            ),
+            (
+                CUT_OFF_AGAIN,
+                "supplied and cut off again in one second => \
+                 5: S1 3600 5000 1; S2 3600 5000 1; S4 0 86400 -;",
+            ),
+            (
+                CUT_OFF_TWICE,
+                "cut off twice in the first second => \
+                 5: S1 3600 86400 4; S2 3600 86400 3; S4 0 86400 -;",
+            ),
+            (
+                TWO_RUNS,
+                "two runs with supply between them => \
+                 5: S2 10 20 1; S2 21 30 3; S4 0 86400 -;",
+            ),
+            (
+                ENTERED_LATE,
+                "the opening is entered late => \
+                 4: S1 3600 4200 3; S2 3600 4200 3; S4 0 86400 -;",
+            ),
+        ],
     },
     Built {
-        title: "the tie takes one section over",
-        days: DAY,
-        lives: "",
-        script: TAKEN_OVER,
-        searches: 5,
-        runs: "S1 3600 7200 1\nS2 3600 4200 1\nS4 0 86400 -\n",
-    },
-    Built {
-        title: "opened and closed in one second",
-        days: DAY,
-        lives: "",
-        script: "switch B1 open 4000 3 K1\nswitch B1 close 4000 3 K1",
-        searches: 3,
-        runs: "S4 0 86400 -\n",
-    },
-    Built {
-        title: "closed and opened in one second",
-        days: DAY,
-        lives: "",
-        script: "switch B1 close 4000 3 K1\nswitch B1 open 4000 3 K1",
-        searches: 2,
-        runs: "S1 4000 86400 2\nS2 4000 86400 2\nS4 0 86400 -\n",
-    },
-    Built {
-        title: "opened at the first second",
-        days: DAY,
-        lives: "",
-        script: "switch W1 open 0 3 K1\nswitch W1 close 1 3 K1",
-        searches: 3,
-        runs: "S2 0 1 1\nS4 0 86400 -\n",
-    },
-    Built {
-        title: "opened at the last second",
-        days: DAY,
-        lives: "",
-        script: "switch W1 open 86399 3 K1",
-        searches: 2,
-        runs: "S2 86399 86400 1\nS4 0 86400 -\n",
-    },
-    Built {
-        title: "supplied and cut off again in one second",
-        days: DAY,
-        lives: "",
-        script: CUT_OFF_AGAIN,
-        searches: 5,
-        runs: "S1 3600 5000 1\nS2 3600 5000 1\nS4 0 86400 -\n",
-    },
-    Built {
-        title: "cut off twice in the first second",
-        days: DAY,
-        lives: "",
-        script: CUT_OFF_TWICE,
-        searches: 5,
-        runs: "S1 3600 86400 4\nS2 3600 86400 3\nS4 0 86400 -\n",
-    },
-    Built {
-        title: "two runs with supply between them",
-        days: DAY,
-        lives: "",
-        script: TWO_RUNS,
-        searches: 5,
-        runs: "S2 10 20 1\nS2 21 30 3\nS4 0 86400 -\n",
-    },
-    Built {
-        title: "the opening is entered late",
-        days: DAY,
-        lives: "",
-        script: ENTERED_LATE,
-        searches: 4,
-        runs: "S1 3600 4200 3\nS2 3600 4200 3\nS4 0 86400 -\n",
-    },
-    Built {
-        title: "a day of 2024",
         days: DAY_OF_2024,
         lives: "",
-        script: OF_2024,
-        searches: 4,
-        runs: "\
-S1 1704070800 1704071400 1
-S1 1704072000 1704153600 3
-S2 1704070800 1704071400 1
-S2 1704072000 1704153600 3
-S4 1704067200 1704153600 -
-",
+        cases: &[(
+            OF_2024,
+            "a day of 2024 => \
+                 4: S1 1704070800 1704071400 1; S1 1704072000 1704153600 3; \
+                 S2 1704070800 1704071400 1; S2 1704072000 1704153600 3; \
+                 S4 1704067200 1704153600 -;",
+        )],
     },
     Built {
-        title: "lives that turn in one second take one search",
         days: DAY,
         lives: "life B1 0 4000\nlife W1 0 4000\nlife T1 4000 -",
-        script: "switch T1 close 4000 3 K1",
-        searches: 3,
-        runs: "S1 4000 86400 -\nS4 0 86400 -\n",
+        cases: &[(
+            "switch T1 close 4000 3 K1",
+            "lives that turn in one second take one search => \
+                 3: S1 4000 86400 -; S4 0 86400 -;",
+        )],
     },
 ];
 

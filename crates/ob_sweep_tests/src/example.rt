@@ -37,45 +37,38 @@ pub const DAY_OF_2024: Days = Days {
     count: 1,
 };
 
-/// Lives of devices and the commands of the switching log, one a line; the expected outage
-/// intervals of the sections S1 to S5, and the searches that building them takes.
+/// Lives of devices, and cases: the commands of the switching log, one a line, and a title with the
+/// searches that building takes and the expected outage intervals of the sections S1 to S5.
 #[derive(Clone, Copy)]
 pub struct Built {
-    pub title: &'static str,
     pub days: Days,
     pub lives: &'static str,
-    pub script: &'static str,
-    pub searches: u128,
-    pub runs: &'static str,
+    pub cases: &'static [(&'static str, &'static str)],
 }
 
-/// Lives of devices, the commands of the switching log, and the effect of one more command. The
-/// effect is the searches, the touched sections, and the outage intervals of the sections S1 to S5
-/// afterwards. There are two numbers of searches: on a timeline that finds outage intervals from
-/// scratch (`Scratch`), and on one that finds them in windows (`Windowed`). The window of a change
-/// is the seconds in which the change can alter the supply.
+/// Lives of devices, the commands of the switching log, and cases, one a line: a title, one more
+/// command and its effect. The effect is the searches, the touched sections, and the outage
+/// intervals of the sections S1 to S5 afterwards. There are two numbers of searches: on a timeline
+/// that finds outage intervals from scratch (`Scratch`), and on one that finds them in windows
+/// (`Windowed`). The window of a change is the seconds in which the change can alter the supply.
 #[derive(Clone, Copy)]
-pub struct Case {
-    pub title: &'static str,
+pub struct Changes {
     pub days: Days,
     pub lives: &'static str,
     pub script: &'static str,
-    pub ask: &'static str,
-    pub searches: (u128, u128),
-    pub touched: &'static str,
-    pub runs: &'static str,
+    pub cases: &'static str,
 }
 
-// The line of an outage interval: its section, its first second, the second after its last, and the
+// The text of an outage interval: its section, its first second, the second after its last, and the
 // number of its cutter (the entry that began it) or `-`.
-fn line_of(alloc: Global, run: &Run) -> Result<String, Fail> {
+fn text_of(alloc: Global, run: &Run) -> Result<String, Fail> {
     let name = name_at(&NODES, run.section)?;
     let (since, until) = (run.since, run.until);
-    let line = match run.cutter {
-        Some(cutter) => format!(in alloc; "{name} {since} {until} {cutter}\n"),
-        None => format!(in alloc; "{name} {since} {until} -\n"),
+    let text = match run.cutter {
+        Some(cutter) => format!(in alloc; " {name} {since} {until} {cutter};"),
+        None => format!(in alloc; " {name} {since} {until} -;"),
     };
-    Ok(line?)
+    Ok(text?)
 }
 
 // The name of a node in a list of all names.
@@ -83,41 +76,41 @@ fn name_at(names: &[&'static str], node: u16) -> Result<&'static str, Fail> {
     Ok(names.get(usize::from(node)).copied().ok_or("a node")?)
 }
 
-fn push_lines(alloc: Global, text: &mut String, runs: &[Run]) -> Result<(), Fail> {
+fn push_runs(alloc: Global, text: &mut String, runs: &[Run]) -> Result<(), Fail> {
     for run in runs {
-        text.push_str(line_of(alloc, run)?.as_str())?;
+        text.push_str(text_of(alloc, run)?.as_str())?;
     }
     Ok(())
 }
 
 // The outage intervals of some of the network's nodes, one node after another.
-fn lines_of<T: Timeline>(alloc: Global, timeline: &T, nodes: &[u16]) -> Result<String, Fail>
+fn texts_of<T: Timeline>(alloc: Global, timeline: &T, nodes: &[u16]) -> Result<String, Fail>
     requires { 7 ≤ length (T.content timeline.now) }
 {
     let mut text = String::new(alloc);
     for node in nodes {
         if *node < 7 {
-            push_lines(alloc, &mut text, timeline.runs_of(*node))?;
+            push_runs(alloc, &mut text, timeline.runs_of(*node))?;
         }
     }
     Ok(text)
 }
 
 // The new outage intervals of the touched sections, one section after another.
-fn new_lines(alloc: Global, delta: &Delta) -> Result<String, Fail> {
+fn new_runs(alloc: Global, delta: &Delta) -> Result<String, Fail> {
     let mut text = String::new(alloc);
     for section in delta.touched() {
-        push_lines(alloc, &mut text, delta.runs(*section))?;
+        push_runs(alloc, &mut text, delta.runs(*section))?;
     }
     Ok(text)
 }
 
-// The names of nodes, each followed by a space.
+// The names of nodes, each after a space.
 fn names_of(alloc: Global, nodes: &[u16]) -> Result<String, Fail> {
     let mut text = String::new(alloc);
     for node in nodes {
-        text.push_str(name_at(&NODES, *node)?)?;
         text.push_str(" ")?;
+        text.push_str(name_at(&NODES, *node)?)?;
     }
     Ok(text)
 }
@@ -143,7 +136,7 @@ fn days_of(
 }
 
 // The outage intervals that are built, and the searches that this takes.
-fn lines_built<T: Timeline>(
+fn runs_built<T: Timeline>(
     alloc: Global,
     net: &mut Net,
     sheet: &Sheet,
@@ -154,27 +147,35 @@ fn lines_built<T: Timeline>(
         × (e.second < end_second_of period.now)) sheet.now.entries }
 {
     let timeline = T::build(alloc, net, sheet, period)?;
-    let lines = lines_of(alloc, &timeline, SECTIONS)?;
-    Ok((lines, net.searches()))
+    let runs = texts_of(alloc, &timeline, SECTIONS)?;
+    Ok((runs, net.searches()))
 }
 
-fn build_on<T: Timeline>(rt: &impl Abort, alloc: Global, case: &Built) -> Result<(), Fail> {
-    let (mut net, period, sheet) = days_of(alloc, &case.days, case.lives, case.script)?;
-    let (runs, searches) = lines_built::<T>(alloc, &mut net, &sheet, &period)?;
+fn build_on<T: Timeline>(
+    rt: &impl Abort,
+    alloc: Global,
+    over: &Built,
+    script: &str,
+    case: &str,
+) -> Result<(), Fail> {
+    let (title, wanted) = case.split_once(" => ").ok_or("a title")?;
+    let (mut net, period, sheet) = days_of(alloc, &over.days, over.lives, script)?;
+    let (runs, searches) = runs_built::<T>(alloc, &mut net, &sheet, &period)?;
+    let found = format!(in alloc; "{searches}:{runs}")?;
     assert!(rt;
-        net.nodes() == 6 && searches == case.searches,
-        "{}",
-        case.title
+        net.nodes() == 6 && found.as_str() == wanted,
+        "{title}: {found}"
     );
-    assert!(rt; runs.as_str() == case.runs, "{}: {runs}", case.title);
     Ok(())
 }
 
 /// Checks that each timeline builds these outage intervals.
-pub fn build(rt: &impl Abort, alloc: Global, cases: &[Built]) -> Result<(), Fail> {
-    for case in cases {
-        build_on::<Scratch>(rt, alloc, case)?;
-        build_on::<Windowed>(rt, alloc, case)?;
+pub fn build(rt: &impl Abort, alloc: Global, built: &[Built]) -> Result<(), Fail> {
+    for over in built {
+        for (script, case) in over.cases {
+            build_on::<Scratch>(rt, alloc, over, *script, *case)?;
+            build_on::<Windowed>(rt, alloc, over, *script, *case)?;
+        }
     }
     Ok(())
 }
@@ -204,9 +205,9 @@ fn adopt<T: Timeline>(
     ensures count { length (T.content timeline.new) ≡ length (T.content timeline.old) }
 {
     let sections = Vec::from_slice(alloc, delta.touched())?;
-    let planned = new_lines(alloc, &delta)?;
+    let planned = new_runs(alloc, &delta)?;
     timeline.adopt(delta);
-    let adopted = lines_of(alloc, timeline, &sections)?;
+    let adopted = texts_of(alloc, timeline, &sections)?;
     Ok((planned, adopted))
 }
 
@@ -273,7 +274,7 @@ fn take_over<T: Timeline>(
     let touched = names_of(alloc, delta.touched())?;
     let (planned, adopted) = adopt(alloc, &mut timeline, delta)?;
     obey(sheet, net, period, command)?;
-    let runs = lines_of(alloc, &timeline, SECTIONS)?;
+    let runs = texts_of(alloc, &timeline, SECTIONS)?;
     let is_as_built = is_as_built(alloc, net, sheet, period, &timeline)?;
     Ok(Effect {
         searches,
@@ -285,53 +286,50 @@ fn take_over<T: Timeline>(
     })
 }
 
-fn effect_of<T: Timeline>(alloc: Global, case: &Case) -> Result<Effect, Fail> {
-    let command = read_body(case.ask.as_bytes()).ok_or("a command")?;
-    let (mut net, period, mut sheet) = days_of(alloc, &case.days, case.lives, case.script)?;
+fn effect_of<T: Timeline>(alloc: Global, over: &Changes, ask: &str) -> Result<Effect, Fail> {
+    let command = read_body(ask.as_bytes()).ok_or("a command")?;
+    let (mut net, period, mut sheet) = days_of(alloc, &over.days, over.lives, over.script)?;
     take_over::<T>(alloc, &mut net, &mut sheet, &period, &command)
 }
 
-// Checks that the effect and the number of searches are those that the case expects.
-fn is_wanted(rt: &impl Abort, case: &Case, searches: u128, effect: &Effect) {
-    let title = case.title;
-    assert!(rt;
-        effect.searches == searches,
-        "{title}: {} searches",
-        effect.searches
-    );
-    assert!(rt;
-        effect.touched.as_str() == case.touched,
-        "{title}: {}",
-        effect.touched
-    );
+// Checks the effect of a command: its searches, and the text of the touched sections and of the
+// outage intervals.
+fn is_wanted<T: Timeline>(
+    rt: &impl Abort,
+    alloc: Global,
+    over: &Changes,
+    (title, ask): (&str, &str),
+    (searches, wanted): (&str, &str),
+) -> Result<(), Fail> {
+    let effect = effect_of::<T>(alloc, over, ask)?;
+    let found = format!(in alloc; "{}:{}", effect.touched, effect.runs)?;
+    assert!(rt; found.as_str() == wanted, "{title}:{found}");
+    let found = format!(in alloc; "{}", effect.searches)?;
+    assert!(rt; found.as_str() == searches, "{title}: {found} searches");
     assert!(rt;
         effect.adopted == effect.planned,
-        "{title}: {}",
+        "{title}:{}",
         effect.adopted
     );
-    assert!(rt;
-        effect.runs.as_str() == case.runs,
-        "{title}: {}",
-        effect.runs
-    );
     assert!(rt; effect.is_as_built, "{title}: built anew");
+    Ok(())
+}
+
+fn alter_one(rt: &impl Abort, alloc: Global, over: &Changes, line: &str) -> Result<(), Fail> {
+    let (head, effect) = line.split_once(" => ").ok_or("an effect")?;
+    let case = head.split_once(": ").ok_or("a title")?;
+    let (searches, wanted) = effect.split_once(":").ok_or("sections")?;
+    let (scratch, windowed) = searches.split_once(" ").ok_or("two numbers")?;
+    is_wanted::<Scratch>(rt, alloc, over, case, (scratch, wanted))?;
+    is_wanted::<Windowed>(rt, alloc, over, case, (windowed, wanted))
 }
 
 /// Checks on each timeline that these changes have the expected effects.
-pub fn alter(rt: &impl Abort, alloc: Global, cases: &[Case]) -> Result<(), Fail> {
-    for case in cases {
-        is_wanted(
-            rt,
-            case,
-            case.searches.0,
-            &effect_of::<Scratch>(alloc, case)?,
-        );
-        is_wanted(
-            rt,
-            case,
-            case.searches.1,
-            &effect_of::<Windowed>(alloc, case)?,
-        );
+pub fn alter(rt: &impl Abort, alloc: Global, changes: &[Changes]) -> Result<(), Fail> {
+    for over in changes {
+        for line in over.cases.lines() {
+            alter_one(rt, alloc, over, line)?;
+        }
     }
     Ok(())
 }

@@ -1,16 +1,8 @@
 //! Tests of a change of the network whose devices have lives: what it touches, the new outage
 //! intervals, and the searches it takes.
-use crate::example::{Case, DAY, Days, alter};
+use crate::example::{Changes, DAY, Days, alter};
+use crate::feeders::TAKEN_OVER;
 use std::test::Fail;
-
-// From 3600 on S1 has no supply until its breaker closes, and S2 has none until the tie closes at
-// 4200.
-const TAKEN_OVER: &'static str = "\
-switch B1 open 3600 3 K1
-switch W1 open 4200 3 K1
-switch T1 close 4200 3 K1
-switch B1 close 7200 3 K1
-";
 
 // S1 and S2 have no supply until their breaker closes.
 const WAITING: &'static str = "\
@@ -29,309 +21,172 @@ const YEAR_2024: Days = Days {
     count: 366,
 };
 
-const CHANGES: &'static [Case] = &[
-    Case {
-        title: "the tie goes while it supplies",
+const CHANGES: &'static [Changes] = &[
+    // In the last second, which the last case has, only the tie supplies S2.
+    Changes {
         days: DAY,
         lives: "",
         script: TAKEN_OVER,
-        ask: "life T1 0 6000",
-        searches: (6, 2),
-        touched: "S2 ",
-        runs: "S1 3600 7200 1\nS2 3600 4200 1\nS2 6000 86400 -\nS4 0 86400 -\n",
+        cases: "\
+the tie goes while it supplies: life T1 0 6000 => \
+    6 2: S2: S1 3600 7200 1; S2 3600 4200 1; S2 6000 86400 -; S4 0 86400 -;
+a device joins in an outage: device X1 BUS-A S1 closed 5000 - => \
+    6 2: S1: S1 3600 5000 1; S2 3600 4200 1; S4 0 86400 -;
+a bus more is searched for by none: bus BUS-B => 0 0:: S1 3600 7200 1; S2 3600 4200 1; S4 0 86400 -;
+a section more has one run: section S5 3 => \
+    0 0: S5: S1 3600 7200 1; S2 3600 4200 1; S4 0 86400 -; S5 0 86400 -;
+the same life: life B2 0 - => 5 0:: S1 3600 7200 1; S2 3600 4200 1; S4 0 86400 -;
+a life that differs behind the period alone: life B2 0 86400 => \
+    5 0:: S1 3600 7200 1; S2 3600 4200 1; S4 0 86400 -;
+a life that differs in the last second: life B2 0 86399 => \
+    6 1: S2 S3: S1 3600 7200 1; S2 3600 4200 1; S2 86399 86400 -; S3 86399 86400 -; S4 0 86400 -;
+",
     },
-    Case {
-        title: "the tie stays for good",
+    Changes {
         days: DAY,
         lives: "life T1 0 6000",
         script: TAKEN_OVER,
-        ask: "life T1 0 -",
-        searches: (5, 2),
-        touched: "S2 ",
-        runs: "S1 3600 7200 1\nS2 3600 4200 1\nS4 0 86400 -\n",
+        cases: "\
+the tie stays for good: life T1 0 - => 5 2: S2: S1 3600 7200 1; S2 3600 4200 1; S4 0 86400 -;
+",
     },
-    Case {
-        title: "a device joins in an outage",
-        days: DAY,
-        lives: "",
-        script: TAKEN_OVER,
-        ask: "device X1 BUS-A S1 closed 5000 -",
-        searches: (6, 2),
-        touched: "S1 ",
-        runs: "S1 3600 5000 1\nS2 3600 4200 1\nS4 0 86400 -\n",
-    },
-    Case {
-        title: "the end of a life cuts off without a cutter",
+    Changes {
         days: DAY,
         lives: "",
         script: "",
-        ask: "life B2 0 3600",
-        searches: (2, 1),
-        touched: "S3 ",
-        runs: "S3 3600 86400 -\nS4 0 86400 -\n",
+        cases: "\
+the end of a life cuts off without a cutter: life B2 0 3600 => \
+    2 1: S3: S3 3600 86400 -; S4 0 86400 -;
+a device joins where nothing was switched: device X1 BUS-A S1 closed 5000 - => 2 1:: S4 0 86400 -;
+a device joins behind the period: device X1 BUS-A S4 closed 86400 - => 1 0:: S4 0 86400 -;
+an open device joins: device X1 BUS-A S4 open 0 - => 1 1:: S4 0 86400 -;
+",
     },
-    Case {
-        title: "opened in the second after its life",
+    Changes {
         days: DAY,
         lives: "life B2 0 3600",
         script: "",
-        ask: "switch B2 open 3600 4 K1",
-        searches: (3, 2),
-        touched: "",
-        runs: "S3 3600 86400 -\nS4 0 86400 -\n",
+        cases: "\
+opened in the second after its life: switch B2 open 3600 4 K1 => \
+    3 2:: S3 3600 86400 -; S4 0 86400 -;
+",
     },
-    Case {
-        title: "opened in the last second of its life",
+    Changes {
         days: DAY,
         lives: "life B2 0 3600",
         script: "switch B2 open 3600 4 K1",
-        ask: "switch B2 open 3599 4 K1",
-        searches: (3, 3),
-        touched: "S3 ",
-        runs: "S3 3599 86400 2\nS4 0 86400 -\n",
-    },
-    Case {
-        title: "a bus more is searched for by none",
-        days: DAY,
-        lives: "",
-        script: TAKEN_OVER,
-        ask: "bus BUS-B",
-        searches: (0, 0),
-        touched: "",
-        runs: "S1 3600 7200 1\nS2 3600 4200 1\nS4 0 86400 -\n",
-    },
-    Case {
-        title: "a section more has one run",
-        days: DAY,
-        lives: "",
-        script: TAKEN_OVER,
-        ask: "section S5 3",
-        searches: (0, 0),
-        touched: "S5 ",
-        runs: "S1 3600 7200 1\nS2 3600 4200 1\nS4 0 86400 -\nS5 0 86400 -\n",
+        cases: "\
+opened in the last second of its life: switch B2 open 3599 4 K1 => \
+    3 3: S3: S3 3599 86400 2; S4 0 86400 -;
+",
     },
     // In second 4000 the breaker's life ends, and the tie's life begins and the tie is closed.
-    Case {
-        title: "lives turn before the switchings of their second",
+    Changes {
         days: DAY,
         lives: "life B1 0 4000\nlife T1 4000 -",
         script: "switch T1 close 4000 3 K1",
-        ask: "life T1 4001 -",
-        searches: (4, 3),
-        touched: "S1 S2 ",
-        runs: "S1 4000 4001 -\nS2 4000 4001 -\nS4 0 86400 -\n",
+        cases: "\
+lives turn before the switchings of their second: life T1 4001 - => \
+    4 3: S1 S2: S1 4000 4001 -; S2 4000 4001 -; S4 0 86400 -;
+",
     },
-    Case {
-        title: "an opening cuts off before a life ends",
+    Changes {
         days: DAY,
         lives: "life B1 0 4000",
         script: "switch W1 open 4000 3 K1",
-        ask: "life B1 0 4001",
-        searches: (3, 3),
-        touched: "S1 S2 ",
-        runs: "S1 4001 86400 -\nS2 4000 86400 1\nS4 0 86400 -\n",
+        cases: "\
+an opening cuts off before a life ends: life B1 0 4001 => \
+    3 3: S1 S2: S1 4001 86400 -; S2 4000 86400 1; S4 0 86400 -;
+",
     },
-    Case {
-        title: "a device takes the place of another",
+    Changes {
         days: DAY,
         lives: "life B1 0 4000",
         script: "",
-        ask: "device X1 BUS-A S1 closed 4000 -",
-        searches: (2, 1),
-        touched: "S1 S2 ",
-        runs: "S4 0 86400 -\n",
+        cases: "\
+a device takes the place of another: device X1 BUS-A S1 closed 4000 - => 2 1: S1 S2: S4 0 86400 -;
+",
     },
-    Case {
-        title: "a life before the period",
+    Changes {
         days: SECOND_DAY,
         lives: "",
         script: "",
-        ask: "life B2 0 86400",
-        searches: (1, 1),
-        touched: "S3 ",
-        runs: "S3 86400 172800 -\nS4 86400 172800 -\n",
+        cases: "\
+a life before the period: life B2 0 86400 => 1 1: S3: S3 86400 172800 -; S4 86400 172800 -;
+a life behind the period: life B2 172800 - => 1 1: S3: S3 86400 172800 -; S4 86400 172800 -;
+a life that begins in the last second: life B2 172799 - => \
+    2 2: S3: S3 86400 172799 -; S4 86400 172800 -;
+",
     },
-    Case {
-        title: "a life behind the period",
-        days: SECOND_DAY,
-        lives: "",
-        script: "",
-        ask: "life B2 172800 -",
-        searches: (1, 1),
-        touched: "S3 ",
-        runs: "S3 86400 172800 -\nS4 86400 172800 -\n",
-    },
-    Case {
-        title: "a life from before the period to behind it",
+    Changes {
         days: SECOND_DAY,
         lives: "life B2 0 86400",
         script: "",
-        ask: "life B2 172800 -",
-        searches: (1, 0),
-        touched: "",
-        runs: "S3 86400 172800 -\nS4 86400 172800 -\n",
+        cases: "\
+a life from before the period to behind it: life B2 172800 - => \
+    1 0:: S3 86400 172800 -; S4 86400 172800 -;
+",
     },
-    Case {
-        title: "a life that begins in the last second",
-        days: SECOND_DAY,
-        lives: "",
-        script: "",
-        ask: "life B2 172799 -",
-        searches: (2, 2),
-        touched: "S3 ",
-        runs: "S3 86400 172799 -\nS4 86400 172800 -\n",
-    },
-    Case {
-        title: "lives that do not meet",
+    Changes {
         days: DAY,
         lives: "life B2 1000 2000",
         script: "switch W1 open 3000 3 K1\nswitch W1 close 4000 3 K1",
-        ask: "life B2 5000 6000",
-        searches: (5, 5),
-        touched: "S3 ",
-        runs: "S2 3000 4000 1\nS3 0 5000 -\nS3 6000 86400 -\nS4 0 86400 -\n",
+        cases: "\
+lives that do not meet: life B2 5000 6000 => \
+    5 5: S3: S2 3000 4000 1; S3 0 5000 -; S3 6000 86400 -; S4 0 86400 -;
+",
     },
-    Case {
-        title: "the same life",
-        days: DAY,
-        lives: "",
-        script: TAKEN_OVER,
-        ask: "life B2 0 -",
-        searches: (5, 0),
-        touched: "",
-        runs: "S1 3600 7200 1\nS2 3600 4200 1\nS4 0 86400 -\n",
-    },
-    Case {
-        title: "a life that differs behind the period alone",
-        days: DAY,
-        lives: "",
-        script: TAKEN_OVER,
-        ask: "life B2 0 86400",
-        searches: (5, 0),
-        touched: "",
-        runs: "S1 3600 7200 1\nS2 3600 4200 1\nS4 0 86400 -\n",
-    },
-    // At that time only the tie supplies S2.
-    Case {
-        title: "a life that differs in the last second",
-        days: DAY,
-        lives: "",
-        script: TAKEN_OVER,
-        ask: "life B2 0 86399",
-        searches: (6, 1),
-        touched: "S2 S3 ",
-        runs: "S1 3600 7200 1\nS2 3600 4200 1\nS2 86399 86400 -\nS3 86399 86400 -\nS4 0 86400 -\n",
-    },
-    Case {
-        title: "a device joins where nothing was switched",
-        days: DAY,
-        lives: "",
-        script: "",
-        ask: "device X1 BUS-A S1 closed 5000 -",
-        searches: (2, 1),
-        touched: "",
-        runs: "S4 0 86400 -\n",
-    },
-    Case {
-        title: "a device joins behind the period",
-        days: DAY,
-        lives: "",
-        script: "",
-        ask: "device X1 BUS-A S4 closed 86400 -",
-        searches: (1, 0),
-        touched: "",
-        runs: "S4 0 86400 -\n",
-    },
-    Case {
-        title: "an open device joins",
-        days: DAY,
-        lives: "",
-        script: "",
-        ask: "device X1 BUS-A S4 open 0 -",
-        searches: (1, 1),
-        touched: "",
-        runs: "S4 0 86400 -\n",
-    },
-    Case {
-        title: "a device joins where its end was cut off for a year",
+    Changes {
         days: YEAR_2024,
         lives: "",
         script: "",
-        ask: "device X1 S3 S4 closed 1704072200 -",
-        searches: (2, 1),
-        touched: "S4 ",
-        runs: "S4 1704067200 1704072200 -\n",
+        cases: "\
+a device joins where its end was cut off for a year: device X1 S3 S4 closed 1704072200 - => \
+    2 1: S4: S4 1704067200 1704072200 -;
+",
     },
-    Case {
-        title: "entries name a device that comes later",
+    Changes {
         days: DAY,
         lives: "",
         script: WAITING,
-        ask: "life B1 5000 -",
-        searches: (4, 3),
-        touched: "S1 S2 ",
-        runs: "S1 0 7200 -\nS2 0 7200 -\nS4 0 86400 -\n",
-    },
-    Case {
-        title: "entries name a device that has gone",
-        days: DAY,
-        lives: "",
-        script: WAITING,
-        ask: "life B1 0 5000",
-        searches: (4, 2),
-        touched: "S1 S2 ",
-        runs: "S1 3600 86400 1\nS2 3600 86400 1\nS4 0 86400 -\n",
-    },
-    Case {
-        title: "a run goes on where a life ends",
-        days: DAY,
-        lives: "",
-        script: WAITING,
-        ask: "life I1 0 5000",
-        searches: (4, 2),
-        touched: "S1 S2 S3 ",
-        runs: "S1 3600 86400 1\nS2 3600 86400 1\nS3 5000 86400 -\nS4 0 86400 -\n",
+        cases: "\
+entries name a device that comes later: life B1 5000 - => \
+    4 3: S1 S2: S1 0 7200 -; S2 0 7200 -; S4 0 86400 -;
+entries name a device that has gone: life B1 0 5000 => \
+    4 2: S1 S2: S1 3600 86400 1; S2 3600 86400 1; S4 0 86400 -;
+a run goes on where a life ends: life I1 0 5000 => \
+    4 2: S1 S2 S3: S1 3600 86400 1; S2 3600 86400 1; S3 5000 86400 -; S4 0 86400 -;
+",
     },
     // Until 6000 the new device supplies S3 although its breaker is open.
-    Case {
-        title: "cut off by the end of a life and no more by an opening",
+    Changes {
         days: DAY,
         lives: "",
         script: "switch B2 open 5000 4 K1",
-        ask: "device X1 BUS-A S3 closed 0 6000",
-        searches: (3, 3),
-        touched: "S3 ",
-        runs: "S3 6000 86400 -\nS4 0 86400 -\n",
+        cases: "\
+cut off by the end of a life and no more by an opening: device X1 BUS-A S3 closed 0 6000 => \
+    3 3: S3: S3 6000 86400 -; S4 0 86400 -;
+",
     },
-    Case {
-        title: "closed before its life begins",
+    Changes {
         days: DAY,
         lives: "life T1 5000 -",
         script: "switch B1 open 3600 3 K1\nswitch W1 open 3600 3 K1",
-        ask: "switch T1 close 4000 3 K1",
-        searches: (5, 3),
-        touched: "S2 ",
-        runs: "S1 3600 86400 1\nS2 3600 5000 1\nS4 0 86400 -\n",
+        cases: "\
+closed before its life begins: switch T1 close 4000 3 K1 => \
+    5 3: S2: S1 3600 86400 1; S2 3600 5000 1; S4 0 86400 -;
+",
     },
-    Case {
-        title: "the opening before the end of a life is withdrawn",
+    Changes {
         days: DAY,
         lives: "life B2 0 3600",
         script: "switch B2 open 3599 4 K1",
-        ask: "withdraw 1 1",
-        searches: (2, 2),
-        touched: "S3 ",
-        runs: "S3 3600 86400 -\nS4 0 86400 -\n",
-    },
-    Case {
-        title: "an opening is corrected to the end of a life",
-        days: DAY,
-        lives: "life B2 0 3600",
-        script: "switch B2 open 3599 4 K1",
-        ask: "correct 1 1 open 3600 4 K1",
-        searches: (3, 3),
-        touched: "S3 ",
-        runs: "S3 3600 86400 -\nS4 0 86400 -\n",
+        cases: "\
+the opening before the end of a life is withdrawn: withdraw 1 1 => \
+    2 2: S3: S3 3600 86400 -; S4 0 86400 -;
+an opening is corrected to the end of a life: correct 1 1 open 3600 4 K1 => \
+    3 3: S3: S3 3600 86400 -; S4 0 86400 -;
+",
     },
 ];
 

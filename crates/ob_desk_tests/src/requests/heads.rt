@@ -7,102 +7,45 @@ use ob_requests::Method;
 use std::alloc::{AllocError, Global};
 use std::process::Abort;
 
-const HEADS: &[(&'static str, &'static str)] = &[
-    ("", "end"),
-    ("\r\n", "cut"),
-    (
-        "GET /totals HTTP/1.1\r\nHost: a\r\n\r\n",
-        "GET /totals 0;end",
-    ),
-    (
-        "\r\nGET /a?b=%20 HTTP/1.1\r\nHOST:\r\n\r\n",
-        "GET /a?b=%20 0;end",
-    ),
-    ("GET /totals HTTP/1.0\r\n\r\nx", "GET /totals 0 closes;"),
-    ("GET /totals HTTP/1.1\r\n\r\n", "400"),
-    ("GET /totals HTTP/1.1\r\nHost: a\r\nhost: a\r\n\r\n", "400"),
-    ("GET /totals HTTP/1.0\r\nHost: a\r\nHost: a\r\n\r\n", "400"),
-    (
-        "GET http://localhost/totals HTTP/1.1\r\nHost: a\r\n\r\n",
-        "400",
-    ),
-    (
-        "POST /commands HTTP/1.1\r\nHost: a\r\nTransfer-Encoding: chunked\r\n\r\n",
-        "501",
-    ),
-    (
-        "POST /commands HTTP/1.1\r\nHost: a\r\nContent-Length: 0\r\nContent-Length: 0\r\n\r\n",
-        "400",
-    ),
-    (
-        "POST /commands HTTP/1.1\r\nHost: a\r\nContent-Length: +5\r\n\r\n12345",
-        "400",
-    ),
-    (
-        "POST /commands HTTP/1.1\r\nHost: a\r\nContent-Length: 5, 5\r\n\r\n12345",
-        "400",
-    ),
-    (
-        "POST /commands HTTP/1.1\r\nHost: a\r\nContent-Length:\r\n\r\n",
-        "400",
-    ),
-    (
-        "POST /c HTTP/1.1\r\nHost: a\r\nContent-Length: \t000000000000005 \r\n\r\n12345",
-        "POST /c 5;end",
-    ),
-    (
-        "POST /c HTTP/1.1\r\nHost: a\r\nContent-Length: 0000000000000005\r\n\r\n12345",
-        "400",
-    ),
-    ("POST /commands HTTP/1.1\r\nHost: a\r\n\r\n", "411"),
-    (
-        "POST /commands HTTP/1.1\r\nHost: a\r\nContent-Length: 4194305\r\n\r\n",
-        "413",
-    ),
-    (
-        "GET /totals HTTP/1.1\r\nHost: a\r\nContent-Length: 4194305\r\n\r\n",
-        "413",
-    ),
-    ("DELETE /totals HTTP/1.1\r\nHost: a\r\n\r\n", "501"),
-    (
-        "DELETE /totals HTTP/1.1\r\nHost: a\r\nContent-Length: -1\r\n\r\n",
-        "400",
-    ),
-    ("get /totals HTTP/1.1\r\nHost: a\r\n\r\n", "501"),
-    ("GET /totals HTTP/2.0\r\nHost: a\r\n\r\n", "400"),
-    (
-        "GET /a HTTP/1.1\r\nHost: a\r\nConnection: keep-alive,\tClose\r\n\r\nx",
-        "GET /a 0 closes;",
-    ),
-    (
-        "GET /a HTTP/1.1\r\nHost: a\r\nConnection: x\r\nConnection: close\r\n\r\nx",
-        "GET /a 0 closes;",
-    ),
-    (
-        "GET /a HTTP/1.1\r\nHost: a\r\nConnection: closed, close x\r\n\r\n",
-        "GET /a 0;end",
-    ),
-    (
-        "POST /c HTTP/1.1\r\nHost: a\r\nExpect: x\r\nExpect: 100-Continue\r\nContent-Length: 1\r\n\r\n1",
-        "POST /c 1 waits;endHTTP/1.1 100 Continue\r\n\r\n",
-    ),
-    (
-        "POST /c HTTP/1.1\r\nHost: a\r\nExpect: 100-continue\r\nContent-Length: 2\r\n\r\n1",
-        "cutHTTP/1.1 100 Continue\r\n\r\n",
-    ),
-    (
-        "POST /c HTTP/1.1\r\nHost: a\r\nExpect: 100-continue\r\nContent-Length: 0\r\n\r\n",
-        "POST /c 0;end",
-    ),
-    (
-        "POST /c HTTP/1.0\r\nExpect: 100-continue\r\nContent-Length: 1\r\n\r\n1",
-        "POST /c 1 closes;",
-    ),
-];
+// Bytes of a stream, with `|` for CRLF, and how they are read.
+const HEADS: &'static str = "\
+| => cut
+ => end
+GET /totals HTTP/1.1|Host: a|| => GET /totals 0;end
+|GET /a?b=%20 HTTP/1.1|HOST:|| => GET /a?b=%20 0;end
+GET /totals HTTP/1.0||x => GET /totals 0 closes;
+GET /totals HTTP/1.1|| => 400
+GET /totals HTTP/1.1|Host: a|host: a|| => 400
+GET /totals HTTP/1.0|Host: a|Host: a|| => 400
+GET http://localhost/totals HTTP/1.1|Host: a|| => 400
+POST /commands HTTP/1.1|Host: a|Transfer-Encoding: chunked|| => 501
+POST /commands HTTP/1.1|Host: a|Content-Length: 0|Content-Length: 0|| => 400
+POST /commands HTTP/1.1|Host: a|Content-Length: +5||12345 => 400
+POST /commands HTTP/1.1|Host: a|Content-Length: 5, 5||12345 => 400
+POST /commands HTTP/1.1|Host: a|Content-Length:|| => 400
+POST /c HTTP/1.1|Host: a|Content-Length: \t000000000000005 ||12345 => POST /c 5;end
+POST /c HTTP/1.1|Host: a|Content-Length: 0000000000000005||12345 => 400
+POST /commands HTTP/1.1|Host: a|| => 411
+POST /commands HTTP/1.1|Host: a|Content-Length: 4194305|| => 413
+GET /totals HTTP/1.1|Host: a|Content-Length: 4194305|| => 413
+DELETE /totals HTTP/1.1|Host: a|| => 501
+DELETE /totals HTTP/1.1|Host: a|Content-Length: -1|| => 400
+get /totals HTTP/1.1|Host: a|| => 501
+GET /totals HTTP/2.0|Host: a|| => 400
+GET /a HTTP/1.1|Host: a|Connection: keep-alive,\tClose||x => GET /a 0 closes;
+GET /a HTTP/1.1|Host: a|Connection: x|Connection: close||x => GET /a 0 closes;
+GET /a HTTP/1.1|Host: a|Connection: closed, close x|| => GET /a 0;end
+POST /c HTTP/1.1|Host: a|Expect: x|Expect: 100-Continue|Content-Length: 1||1 => POST /c 1 waits;endHTTP/1.1 100 Continue||
+POST /c HTTP/1.1|Host: a|Expect: 100-continue|Content-Length: 2||1 => cutHTTP/1.1 100 Continue||
+POST /c HTTP/1.1|Host: a|Expect: 100-continue|Content-Length: 0|| => POST /c 0;end
+POST /c HTTP/1.0|Expect: 100-continue|Content-Length: 1||1 => POST /c 1 closes;
+";
 
 #[test]
 fn heads(rt: HostRuntime) -> Result<(), AllocError> {
-    for (bytes, told) in HEADS {
+    for line in HEADS.lines() {
+        let line = line.replace(rt.alloc(), "|", "\r\n")?;
+        let (bytes, told) = line.split_once(" => ").unwrap_or(("", ""));
         for step in [4096, 1] {
             let way = Way { step, ..WHOLE };
             are_read(&rt, rt.alloc(), bytes.as_bytes(), &way, told)?;

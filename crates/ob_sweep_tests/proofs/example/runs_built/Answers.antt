@@ -1,6 +1,6 @@
 use Rattle.ob_time.specs.Calendar.{first_second_of, end_second_of}
 use Rattle.ob_sweep_tests.proofs.Asked.{lie}
-use Rattle.ob_sweep_tests.proofs.example.lines_built.Goals as goal
+use Rattle.ob_sweep_tests.proofs.example.runs_built.Goals as goal
 
 pub build-requires-clause-between : goal.build-requires-clause-between
 build-requires-clause-between g c = lie (first_second_of c.args.period.now) (end_second_of c.args.period.now) c.args.sheet.now.entries c.requires.all
