@@ -2,9 +2,6 @@
 use Rattle.std.proofs.Common.{◌≡◌, ℕ, Bool, List, take, Option, None, Some, refl, sym, ap, subst, ◌∙◌, inl, inr}
 use Rattle.std.specs.Prelude.{IsSome, Result, Ok, Err, IfErr, OnOk}
 use Rattle.std.specs.Io.KnownBytes.{Appends}
-use Rattle.sqlite_trees.specs.declared.store.Store.{Ghosts}
-use Rattle.sqlite.specs.Held.{state}
-use Rattle.sqlite.specs.State.{HasCleanDisk}
 use Rattle.ob_base.specs.declared.stop.Fault.{Fault}
 use Rattle.ob_base.specs.declared.stop.Fault.TheVariants.{OutOfMemory, Store, Reopen, Input, Output}
 use Rattle.ob_stream.specs.Streams.{AppendsFront}
@@ -12,7 +9,8 @@ use Rattle.ob_stream.specs.Watching.{HasJustFailed}
 use Rattle.ob_stream.specs.declared.watched.Watched.{Watched}
 use Rattle.ob_state.specs.State.{BookState}
 use Rattle.ob_book.specs.Acts.{ActState}
-use Rattle.ob_store.specs.Keeping.{KeeperValue, Ties}
+use Rattle.ob_store.specs.Calls.{IfHeld}
+use Rattle.ob_store.specs.Keepers.{Ghosts, KeeperValue}
 use Rattle.ob_requests.specs.Message.{Message}
 use Rattle.ob_routes.specs.Answers.{Answer, answer_text, bookless}
 use Rattle.ob_routes.specs.Answering.{Answered, IsAnswerFault, Unopened, text_bytes}
@@ -42,7 +40,7 @@ module _ {S : Type 0} (g : Ghosts S) where
   -- an answer that was made stands, and less or all of it is written
   made : (old new : KeeperValue S) (m : Message) (ends : Bool) (text : ReplyText)
       → (old.book ≡ None → (new ≡ old) × Unopened (bookless m) ends (Ok text)) → (IsSome old.book → IsSome new.book)
-      → (HasCleanDisk (state g new.conn) → (b : ActState) → Ties g old b → IsSome old.book → Answered g new b m ends (Ok text))
+      → IfHeld g old new (λ b. Answered g new b m ends (Ok text))
       → (x : Option ActState) → Over g old new x → (y : Option ActState) × AnswersAt x m ends (text_bytes text) y × Stands g new y
   made old new m ends text unopened kept answered None none =
       let so = unopened-ok (bookless m) ends text (unopened none).1 in
@@ -53,14 +51,14 @@ module _ {S : Type 0} (g : Ghosts S) where
 
   pub answered-whole : (had has : Option (List ℕ)) (old new : KeeperValue S) (m : Message) (ends : Bool) (text : ReplyText)
       → (old.book ≡ None → (new ≡ old) × Unopened (bookless m) ends (Ok text)) → (IsSome old.book → IsSome new.book)
-      → (HasCleanDisk (state g new.conn) → (b : ActState) → Ties g old b → IsSome old.book → Answered g new b m ends (Ok text))
+      → IfHeld g old new (λ b. Answered g new b m ends (Ok text))
       → Appends had has (text_bytes text) → IsAnswered g had has old new m ends
   answered-whole had has old new m ends text unopened kept answered written x over =
       let so = made old new m ends text unopened kept answered x over in (text_bytes text, so.0, so.1, written, so.2)
 
   pub answered-less : {W : Type 0} (writer : Watched W) (had has : Option (List ℕ)) (old new : KeeperValue S) (m : Message) (ends : Bool) (text : ReplyText)
       → (old.book ≡ None → (new ≡ old) × Unopened (bookless m) ends (Ok text)) → (IsSome old.book → IsSome new.book)
-      → (HasCleanDisk (state g new.conn) → (b : ActState) → Ties g old b → IsSome old.book → Answered g new b m ends (Ok text))
+      → IfHeld g old new (λ b. Answered g new b m ends (Ok text))
       → AppendsFront had has (text_bytes text) → IsUnanswered g writer had has old new m ends Output
   answered-less writer had has old new m ends text unopened kept answered written x over =
       let so = made old new m ends text unopened kept answered x over in (text_bytes text, so.0, so.1, written, so.2)
@@ -68,7 +66,7 @@ module _ {S : Type 0} (g : Ghosts S) where
   -- what a fault in place of an answer leaves
   left-by : (old new : KeeperValue S) (m : Message) (ends : Bool) (fault : Fault)
       → (old.book ≡ None → (new ≡ old) × Unopened (bookless m) ends (Err fault))
-      → (HasCleanDisk (state g new.conn) → (b : ActState) → Ties g old b → IsSome old.book → Answered g new b m ends (Err fault))
+      → IfHeld g old new (λ b. Answered g new b m ends (Err fault))
       → (x : Option ActState) → Over g old new x → LeftBy g new x m ends fault
   left-by old new m ends fault unopened answered None none =
       let so = unopened-err (bookless m) ends fault (unopened none).1 in (so.0, so.1, ap (λ k. k.book) (unopened none).0 ∙ none)
@@ -76,7 +74,7 @@ module _ {S : Type 0} (g : Ghosts S) where
 
   pub unanswered : {W : Type 0} (writer : Watched W) (had has : Option (List ℕ)) (old new : KeeperValue S) (m : Message) (ends : Bool) (fault : Fault)
       → (old.book ≡ None → (new ≡ old) × Unopened (bookless m) ends (Err fault)) → (IsSome old.book → IsAnswerFault fault)
-      → (HasCleanDisk (state g new.conn) → (b : ActState) → Ties g old b → IsSome old.book → Answered g new b m ends (Err fault))
+      → IfHeld g old new (λ b. Answered g new b m ends (Err fault))
       → (front : List ℕ) × IsWritten writer front unavailable_text × Appends had has front → IsUnanswered g writer had has old new m ends fault
   unanswered writer had has old new m ends OutOfMemory unopened faults answered (front, start, written) =
       λ x over. (front, start, written, left-by old new m ends OutOfMemory unopened answered x over)
@@ -99,14 +97,14 @@ module _ {S : Type 0} (g : Ghosts S) where
 
   pub written-answered : {A : Type 0} (r : Result A Fault) (had has : Option (List ℕ)) (old new : KeeperValue S) (m : Message) (ends : Bool) (text : ReplyText)
       → (old.book ≡ None → (new ≡ old) × Unopened (bookless m) ends (Ok text)) → (IsSome old.book → IsSome new.book)
-      → (HasCleanDisk (state g new.conn) → (b : ActState) → Ties g old b → IsSome old.book → Answered g new b m ends (Ok text))
+      → IfHeld g old new (λ b. Answered g new b m ends (Ok text))
       → OnOk r (Appends had has (text_bytes text)) → OnOk r (IsAnswered g had has old new m ends)
   written-answered (Ok x) had has old new m ends text unopened kept answered written = answered-whole had has old new m ends text unopened kept answered written
   written-answered (Err f) had has old new m ends text unopened kept answered written = tt
 
   pub written-less : {A W : Type 0} (r : Result A Fault) (writer : Watched W) (had has : Option (List ℕ)) (old new : KeeperValue S) (m : Message) (ends : Bool) (text : ReplyText)
       → (old.book ≡ None → (new ≡ old) × Unopened (bookless m) ends (Ok text)) → (IsSome old.book → IsSome new.book)
-      → (HasCleanDisk (state g new.conn) → (b : ActState) → Ties g old b → IsSome old.book → Answered g new b m ends (Ok text))
+      → IfHeld g old new (λ b. Answered g new b m ends (Ok text))
       → IfErr r (λ _. AppendsFront had has (text_bytes text)) → IfErr r (λ f. (f ≡ Output) × HasJustFailed writer) → IfErr r (IsUnanswered g writer had has old new m ends)
   written-less (Ok x) writer had has old new m ends text unopened kept answered written failed = tt
   written-less (Err f) writer had has old new m ends text unopened kept answered written failed =

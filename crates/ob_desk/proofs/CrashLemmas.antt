@@ -3,15 +3,13 @@ use Rattle.std.proofs.Common.{◌≡◌, ℕ, Bool, List, [], ◌∷◌, ◌++�
 use Rattle.std.specs.Prelude.{Ok, Err}
 use Rattle.std.proofs.lemmas.List.{take_all}
 use Rattle.std.proofs.lemmas.List.Sums.{fold-append}
-use Rattle.sqlite_trees.specs.declared.store.Store.{Ghosts}
-use Rattle.sqlite.specs.Held.{state}
-use Rattle.sqlite.specs.State.{State}
 use Rattle.ob_base.specs.declared.stop.Fault.{Fault}
 use Rattle.ob_base.specs.declared.stop.Fault.TheVariants.{OutOfMemory, Store, Reopen, Input, Output}
 use Rattle.ob_stream.specs.declared.watched.Watched.{Watched}
 use Rattle.ob_book.specs.Acts.{ActState, Referenced, act, acts}
 use Rattle.ob_store.specs.Acting.{under}
-use Rattle.ob_store.specs.Keeping.{KeeperValue, KeepsBook, KeepsEitherBook, Ties}
+use Rattle.ob_store.specs.Keepers.{Ghosts, KeeperValue, StoresEither, Ties}
+use Rattle.ob_store.proofs.KeeperLaws.{either_left, stored_left}
 use Rattle.ob_csv.specs.Rows.{Fields, rows_of}
 use Rattle.ob_import.specs.Imports.{Import, ImportsBody, after_header}
 use Rattle.ob_requests.specs.Message.{Message, path_of}
@@ -23,7 +21,7 @@ use Rattle.ob_routes.specs.Answering.{RouteAnswered, StandsLost, StandsShort}
 use Rattle.ob_routes.specs.Routes.{route_of}
 use Rattle.ob_routes.specs.declared.routes.Route.{Route}
 use Rattle.ob_routes.specs.declared.routes.Route.TheVariants as routes
-use Rattle.ob_desk.specs.Crashes.{IsActed, IsLeft, KeepsInWork, LeavesFirst, Outlasts}
+use Rattle.ob_desk.specs.Crashes.{IsActed, IsLeft, KeepsInWork, Outlasts}
 use Rattle.ob_desk.specs.Exchanges.{AnswersAt, Replies}
 use Rattle.ob_desk.specs.Serving.{Breaks, BreaksAnswer, BreaksReply, Fails, Serves}
 use Rattle.ob_desk.specs.Standing.{Over, Stands}
@@ -62,22 +60,13 @@ replies-act allowed (Some b) y (m ∷ ms) text (reply, more, Some c, answers, is
 
 -- ---- a crash
 
-from-either : (s : State) (b c d : ActState) (work : List Referenced) (i j : ℕ) → KeepsEitherBook s c d → c ≡ acts b (take i work) → d ≡ acts b (take j work) → LeavesFirst s b work
-from-either s b c d work i j keeps first second disk trees may = elim (keeps.kept.left disk trees may) [
-  | inl one ↦ (i, rw (← first) one)
-  | inr other ↦ (j, rw (← second) other)
-]
-
-from-book : (s : State) (b c : ActState) (work : List Referenced) (i : ℕ) → KeepsBook s c → c ≡ acts b (take i work) → LeavesFirst s b work
-from-book s b c work i keeps is disk trees may = (i, rw (← is) (keeps.kept.left disk trees may))
-
 -- all of the commands
 all-of : (b c : ActState) (commands : List Referenced) → c ≡ acts b commands → c ≡ acts b (take (length commands) commands)
 all-of b c commands is = is ∙ ap (acts b) (sym (take_all (length commands) commands (omega arith)))
 
 module _ {S : Type 0} (g : Ghosts S) where
   tied : (new : KeeperValue S) (b c : ActState) (commands : List Referenced) → Ties g new c → c ≡ acts b commands → Outlasts g new (Some b)
-  tied new b c commands ties is = (commands, from-book (state g new.conn) b c commands (length commands) ties.kept (all-of b c commands is))
+  tied new b c commands ties is = (commands, stored_left g new (λ (count : ℕ). acts b (take count commands)) c (length commands) ties.kept (all-of b c commands is))
 
   stands-outlasts : (new : KeeperValue S) (x : Option ActState) → Stands g new x → Outlasts g new x
   stands-outlasts new None h = tt
@@ -103,10 +92,10 @@ module _ {S : Type 0} (g : Ghosts S) where
   short-outlasts new b method route body h = let so = short-acts new b method route body h in tied new b (acts b so.0) so.0 so.1 refl
 
   -- all of the commands, or one more
-  one-more : (new : KeeperValue S) (b c : ActState) (commands : List Referenced) (x : Referenced) → KeepsEitherBook (state g new.conn) c (act c x) → c ≡ acts b commands → Outlasts g new (Some b)
+  one-more : (new : KeeperValue S) (b c : ActState) (commands : List Referenced) (x : Referenced) → StoresEither g new c (act c x) → c ≡ acts b commands → Outlasts g new (Some b)
   one-more new b c commands x keeps is = (
     commands ++ x ∷ [],
-    from-either (state g new.conn) b c (act c x) (commands ++ x ∷ []) (length commands) (length (commands ++ x ∷ [])) keeps
+    either_left g new (λ (count : ℕ). acts b (take count (commands ++ x ∷ []))) c (act c x) (length commands) (length (commands ++ x ∷ [])) keeps
         (is ∙ ap (acts b) (sym (take_at commands (x ∷ []) (length commands) refl)))
         (all-of b (act c x) (commands ++ x ∷ []) (ap (λ d. act d x) is ∙ sym (fold-append act b commands (x ∷ [])))),
   )
@@ -124,7 +113,7 @@ module _ {S : Type 0} (g : Ghosts S) where
 
   in-work-outlasts : (new : KeeperValue S) (b : ActState) (commands : List Referenced) → KeepsInWork g new (acts b commands) → Outlasts g new (Some b)
   in-work-outlasts new b commands h = elim h [
-    | inl keeps ↦ (commands, from-book (state g new.conn) b (acts b commands) commands (length commands) keeps (all-of b (acts b commands) commands refl))
+    | inl keeps ↦ (commands, stored_left g new (λ (count : ℕ). acts b (take count commands)) (acts b commands) (length commands) keeps (all-of b (acts b commands) commands refl))
     | inr (x, keeps) ↦ one-more new b (acts b commands) commands x keeps refl
   ]
 

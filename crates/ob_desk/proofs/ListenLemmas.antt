@@ -1,15 +1,13 @@
 -- One stream after the other.
 use Rattle.std.proofs.Common.{◌≡◌, ◌⊎◌, inl, inr, List, [], ◌∷◌, ◌++◌, length, ◌+◌, Option, None, Some, ap, refl, subst, sym, arith, length-append}
 use Rattle.std.specs.Prelude.{◌↔◌, ⊤, IsSome, Result, Ok, Err, IfOk, IfErr}
-use Rattle.sqlite_trees.specs.declared.store.Store.{Ghosts}
-use Rattle.sqlite.specs.Held.{state}
-use Rattle.sqlite.specs.State.{HasCleanDisk}
 use Rattle.ob_base.specs.declared.stop.Fault.{Fault}
 use Rattle.ob_base.specs.declared.stop.Fault.TheVariants.{OutOfMemory, Store, Reopen, Input, Output}
 use Rattle.ob_stream.specs.declared.watched.Watched.{Watched}
 use Rattle.std.proofs.Common.{ℕ}
 use Rattle.ob_book.specs.Acts.{ActState}
-use Rattle.ob_store.specs.Keeping.{KeeperValue, Ties}
+use Rattle.ob_store.specs.Calls.{IfHeld}
+use Rattle.ob_store.specs.Keepers.{Ghosts, KeeperValue}
 use Rattle.ob_desk.specs.Crashes.{IsLeft}
 use Rattle.ob_desk.specs.Serving.{Fails, Serves}
 use Rattle.ob_desk.specs.Standing.{IsKept, Over, fault_of}
@@ -71,9 +69,9 @@ module _ {S : Type 0} (g : Ghosts S) where
 
   -- one stream more
   pub left-more : (old at new : KeeperValue S) (fault : Option Fault) → IsKept g old at None → IsKept g at new fault
-      → (HasCleanDisk (state g at.conn) → (b : ActState) → Ties g old b → IsSome old.book → IsLeft g at b None)
-      → (HasCleanDisk (state g new.conn) → (b : ActState) → Ties g at b → IsSome at.book → IsLeft g new b fault)
-      → HasCleanDisk (state g new.conn) → (b : ActState) → Ties g old b → IsSome old.book → IsLeft g new b fault
+      → IfHeld g old at (λ b. IsLeft g at b None)
+      → IfHeld g at new (λ b. IsLeft g new b fault)
+      → IfHeld g old new (λ b. IsLeft g new b fault)
   left-more old at new fault kept more so-far one disk b ties some =
       let before = so-far (more.clean disk) b ties some in
       left-then g new b before.0 fault (one disk _ before.1 (still-some g old at kept some))
@@ -86,7 +84,7 @@ module _ {S : Type 0} (g : Ghosts S) where
   dropped-by old new (Err unserved.Reopen) kept some = ((λ none. let same = (kept.dropped some).0 none in cc), λ e. cc)
 
   abbrev pub IsLeftSoFar : KeeperValue S → KeeperValue S → Option Fault → Type 0
-  IsLeftSoFar old new fault = HasCleanDisk (state g new.conn) → (b : ActState) → Ties g old b → IsSome old.book → IsLeft g new b fault
+  IsLeftSoFar old new fault = IfHeld g old new (λ b. IsLeft g new b fault)
 
   -- one stream, from the clauses of its call
   pub streamed : (old new : KeeperValue S) (fault : Fault) → IsKept g old new (Some fault) → ((let r : Result Served Fault = Err fault in r) ≡ Err Reopen → old.book ≡ None) → IsLeftSoFar old new (Some fault)

@@ -6,11 +6,9 @@ use Rattle.std.specs.Io.KnownBytes.{Appends}
 use Rattle.ob_base.specs.declared.stop.Fault.{Fault}
 use Rattle.ob_base.specs.declared.stop.Fault.TheVariants.{OutOfMemory, Store, Reopen, Input, Output}
 use Rattle.ob_stream.specs.declared.watched.Watched.{Watched}
-use Rattle.sqlite_trees.specs.declared.store.Store.{Ghosts}
-use Rattle.sqlite.specs.Held.{state}
-use Rattle.sqlite.specs.State.{HasCleanDisk}
 use Rattle.ob_book.specs.Acts.{ActState}
-use Rattle.ob_store.specs.Keeping.{KeeperValue}
+use Rattle.ob_store.specs.Calls.{WasClean}
+use Rattle.ob_store.specs.Keepers.{Ghosts, KeeperValue}
 use Rattle.ob_requests.specs.Continue.{interim_text}
 use Rattle.ob_requests.specs.Message.{Message}
 use Rattle.ob_requests.specs.Stream.{AfterKnown, ends}
@@ -52,7 +50,7 @@ module _ {S : Type 0} (g : Ghosts S) where
   same-allowed allowed ms count = omega (arith, count)
 
   -- what is written and stands after one answer more
-  one-more : (stream now left had mid has : Option (List ℕ)) (old at new : KeeperValue S) (allowed : ℕ) (ended : Bool) → (HasCleanDisk (state g new.conn) → HasCleanDisk (state g at.conn))
+  one-more : (stream now left had mid has : Option (List ℕ)) (old at new : KeeperValue S) (allowed : ℕ) (ended : Bool) → WasClean g at new
       → (run : SoFar stream now had mid old at allowed) (turn : TurnAnswers g allowed now left mid has at new ended)
       → (x : Option ActState) → Over g old new x → (text : List ℕ) × (y : Option ActState) × Replies 1000 x (run.requests ++ turn.message ∷ []) text y × Appends had has text × Stands g new y
   one-more stream now left had mid has old at new allowed ended clean run turn x over =
@@ -77,7 +75,7 @@ module _ {S : Type 0} (g : Ghosts S) where
   }
 
   -- the connection goes on
-  pub run-goes : (stream now left had mid has : Option (List ℕ)) (old at new : KeeperValue S) (allowed : ℕ) (ended : Bool) → (HasCleanDisk (state g new.conn) → HasCleanDisk (state g at.conn)) → ended ≡ false
+  pub run-goes : (stream now left had mid has : Option (List ℕ)) (old at new : KeeperValue S) (allowed : ℕ) (ended : Bool) → WasClean g at new → ended ≡ false
       → SoFar stream now had mid old at allowed → TurnAnswers g allowed now left mid has at new ended
       → SoFar stream left had has old new (allowed - 1)
   run-goes stream now left had mid has old at new allowed ended clean on run turn =
@@ -91,7 +89,7 @@ module _ {S : Type 0} (g : Ghosts S) where
       }
 
   -- the connection ends after this request
-  pub run-ended : (stream now left had mid has : Option (List ℕ)) (old at new : KeeperValue S) (allowed : ℕ) (ended : Bool) → (HasCleanDisk (state g new.conn) → HasCleanDisk (state g at.conn)) → ended ≡ true
+  pub run-ended : (stream now left had mid has : Option (List ℕ)) (old at new : KeeperValue S) (allowed : ℕ) (ended : Bool) → WasClean g at new → ended ≡ true
       → SoFar stream now had mid old at allowed → TurnAnswers g allowed now left mid has at new ended
       → Serves g stream had has old new (1000 - allowed + 1)
   run-ended stream now left had mid has old at new allowed ended clean on run turn =
@@ -174,7 +172,7 @@ module _ {S : Type 0} (g : Ghosts S) where
 
   -- a fault ends the stream
   pub run-fails : {R W : Type 0} (stream now left had mid has : Option (List ℕ)) (reader : Watched R) (writer : Watched W) (old at new : KeeperValue S) (allowed : ℕ) (fault : Fault)
-      → (HasCleanDisk (state g new.conn) → HasCleanDisk (state g at.conn)) → IsKept g old at None
+      → WasClean g at new → IsKept g old at None
       → SoFar stream now had mid old at allowed → TurnFails g allowed now left mid has reader writer at new fault
       → Fails g stream left had has reader writer old new fault
   run-fails stream now left had mid has reader writer old at new allowed fault clean kept run turn = record {

@@ -1,14 +1,12 @@
 -- How a keeper stands to a book, before a call and after it.
 use Rattle.std.proofs.Common.{◌≡◌, ℕ, ◌-◌, List, [], ◌∷◌, Option, None, Some, ap, refl, subst, sym, ◌∙◌}
 use Rattle.std.specs.Prelude.{◌↔◌, IsSome, Result, Ok, Err}
-use Rattle.sqlite_trees.specs.declared.store.Store.{Ghosts}
-use Rattle.sqlite.specs.Held.{state}
-use Rattle.sqlite.specs.State.{HasCleanDisk}
 use Rattle.ob_base.specs.declared.stop.Fault.{Fault}
 use Rattle.ob_base.specs.declared.stop.Fault.TheVariants.{Store}
 use Rattle.ob_state.specs.State.{BookState}
 use Rattle.ob_book.specs.Acts.{ActState}
-use Rattle.ob_store.specs.Keeping.{KeeperValue}
+use Rattle.ob_store.specs.Calls.{WasClean}
+use Rattle.ob_store.specs.Keepers.{Ghosts, KeeperValue}
 use Rattle.ob_requests.specs.Message.{Message}
 use Rattle.ob_desk.specs.Exchanges.{Replies}
 use Rattle.ob_desk.specs.Standing.{IsKept, Over, Stands, fault_of}
@@ -65,7 +63,7 @@ module _ {S : Type 0} (g : Ghosts S) where
   over-stands old new None h = h
   over-stands old new (Some b) (clean, ties, some) = (ties, some)
 
-  pub over-before : (first at new : KeeperValue S) (x : Option ActState) → (HasCleanDisk (state g new.conn) → HasCleanDisk (state g at.conn)) → Over g first new x → Over g first at x
+  pub over-before : (first at new : KeeperValue S) (x : Option ActState) → WasClean g at new → Over g first new x → Over g first at x
   over-before first at new None clean h = h
   over-before first at new (Some b) clean (disk, ties, some) = (clean disk, ties, some)
 
@@ -76,7 +74,7 @@ module _ {S : Type 0} (g : Ghosts S) where
   over-then old mid new (Some b) (Some c) allowed ms text replies (disk, ties, some) stands = (disk, stands.0, stands.1)
 
   -- from the clauses of a call that ended so
-  pub kept-by : {A : Type 0} (old new : KeeperValue S) (r : Result A Fault) (P : Type 0) → (HasCleanDisk (state g new.conn) → HasCleanDisk (state g old.conn))
+  pub kept-by : {A : Type 0} (old new : KeeperValue S) (r : Result A Fault) (P : Type 0) → WasClean g old new
       → (old.book ≡ None → (new ≡ old) × P) → (IsSome old.book → (new.book ≡ None) ↔ (r ≡ Err Store)) → IsKept g old new (fault_of r)
   kept-by old new r P clean unopened dropped = record {
     clean = clean;

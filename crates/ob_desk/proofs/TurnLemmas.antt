@@ -6,9 +6,8 @@ use Rattle.ob_base.specs.declared.stop.Fault.TheVariants.{OutOfMemory, Store, Re
 use Rattle.ob_stream.specs.Streams.{AppendsFront}
 use Rattle.ob_stream.specs.Watching.{HasJustFailed}
 use Rattle.ob_stream.specs.declared.watched.Watched.{Watched}
-use Rattle.sqlite_trees.specs.declared.store.Store.{Ghosts}
 use Rattle.ob_book.specs.Acts.{ActState}
-use Rattle.ob_store.specs.Keeping.{KeeperValue}
+use Rattle.ob_store.specs.Keepers.{Ghosts, KeeperValue}
 use Rattle.ob_requests.specs.Continue.{interim_text}
 use Rattle.ob_requests.specs.Head.{IsCutHead}
 use Rattle.ob_requests.specs.Message.{Message, IsCut, IsCutBody, IsRefused, ReadsKnown}

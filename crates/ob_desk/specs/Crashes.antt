@@ -1,34 +1,24 @@
 -- What requests make of a book, and what a crash leaves of it.
 use Rattle.std.specs.Prelude.{◌≡◌, ◌⊎◌, ⊤, ℕ, List, take, Option, None, Some, option_map}
-use Rattle.sqlite_trees.specs.declared.store.Store.{Ghosts}
-use Rattle.sqlite.specs.Tree.{Trees}
-use Rattle.sqlite.specs.Held.{state}
-use Rattle.sqlite.specs.State.{State, HasCleanDisk}
 use Rattle.ob_base.specs.declared.stop.Fault.{Fault}
 use Rattle.ob_base.specs.declared.stop.Fault.TheVariants.{Store}
 use Rattle.ob_book.specs.Acts.{ActState, Referenced, act, acts}
-use Rattle.ob_commit.specs.Keeps.{Leaves}
-use Rattle.ob_record.specs.Tables.{tables_of}
-use Rattle.ob_store.specs.Keeping.{KeeperValue, KeepsBook, KeepsEitherBook, Ties}
+use Rattle.ob_store.specs.Keepers.{CrashLeaves, Ghosts, KeeperValue, Stores, StoresEither, Ties}
 
 -- one state is that of the other after some commands
 abbrev pub IsActed : Option ActState → Option ActState → Type 0
 IsActed x y = (commands : List Referenced) × (y ≡ option_map (λ b. acts b commands) x)
 
--- whatever a crash leaves are the tables of the book after the first of these commands
-abbrev pub LeavesFirst : State → ActState → List Referenced → Type 0
-LeavesFirst s b work = HasCleanDisk s → (trees : Trees) → s.may_leave trees → (count : ℕ) × Leaves (tables_of (acts b (take count work))) trees
-
 module _ {S : Type 0} (g : Ghosts S) where
   -- the book outlasts a crash, with the first of the commands that were in work
   abbrev pub Outlasts : KeeperValue S → Option ActState → Type 0
   Outlasts new None = ⊤
-  Outlasts new (Some b) = (work : List Referenced) × LeavesFirst (state g new.conn) b work
+  Outlasts new (Some b) = (work : List Referenced) × CrashLeaves g new (λ (count : ℕ). acts b (take count work))
 
   -- the store keeps the book; or it does while it is open, and a crash leaves that, or the book with the command that was in work
   abbrev pub KeepsInWork : KeeperValue S → ActState → Type 0
   KeepsInWork new b =
-      KeepsBook (state g new.conn) b ⊎ ((command : Referenced) × KeepsEitherBook (state g new.conn) b (act b command))
+      Stores g new b ⊎ ((command : Referenced) × StoresEither g new b (act b command))
 
   -- The book is that of some commands more. Where the store has failed, that is the one that it keeps, or else a crash leaves it or
   -- the book with the command that was in work.

@@ -1,12 +1,9 @@
 -- The streams of a listener, served one after the other.
 use Rattle.std.specs.Prelude.{◌≡◌, ◌↔◌, ⊤, ℕ, ◌+◌, ◌<◌, ◌==◌, Bool, List, [], ◌∷◌, length, Option, Some, None, IsSome, Result, Ok, Err, if◌then◌else◌}
-use Rattle.sqlite_trees.specs.declared.store.Store.{Ghosts}
-use Rattle.sqlite.specs.Held.{state}
-use Rattle.sqlite.specs.State.{HasCleanDisk}
 use Rattle.ob_base.specs.declared.stop.Fault.{Fault}
 use Rattle.ob_base.specs.declared.stop.Fault.TheVariants.{OutOfMemory, Store, Reopen, Input, Output}
-use Rattle.ob_book.specs.Acts.{ActState}
-use Rattle.ob_store.specs.Keeping.{KeeperValue, Ties}
+use Rattle.ob_store.specs.Calls.{IfHeld, WasClean}
+use Rattle.ob_store.specs.Keepers.{Ghosts, KeeperValue}
 use Rattle.ob_desk.specs.Crashes.{IsLeft}
 use Rattle.ob_desk.specs.Standing.{IsKept}
 use Rattle.ob_desk.specs.declared.listen.Unserved.{Unserved}
@@ -51,17 +48,17 @@ module _ {S : Type 0} (g : Ghosts S) where
   pub record Streamed (old new : KeeperValue S) (fault : Option Fault) : Type 0 where
     pub kept : IsKept g old new fault
     pub reopen : fault ≡ Some Reopen → old.book ≡ None
-    pub left : HasCleanDisk (state g new.conn) → (b : ActState) → Ties g old b → IsSome old.book → IsLeft g new b fault
+    pub left : IfHeld g old new (λ b. IsLeft g new b fault)
 
   -- How a desk leaves its keeper: a clean disk after it was one before it; without a book nothing changes; a book is dropped
   -- exactly where the store has failed, and lacking only where there was none. The book is that of some commands more, also
   -- after a crash.
   pub record LeavesKeeper (old new : KeeperValue S) (result : Result ⊤ Unserved) : Type 0 where
-    pub clean : HasCleanDisk (state g new.conn) → HasCleanDisk (state g old.conn)
+    pub clean : WasClean g old new
     pub unopened : old.book ≡ None → new ≡ old
     pub dropped : IsSome old.book → (new.book ≡ None) ↔ (result ≡ Err unserved.Store)
     pub reopen : result ≡ Err unserved.Reopen → old.book ≡ None
-    pub left : HasCleanDisk (state g new.conn) → (b : ActState) → Ties g old b → IsSome old.book → IsLeft g new b (last_fault result)
+    pub left : IfHeld g old new (λ b. IsLeft g new b (last_fault result))
 
   module _ {L : Type 0} (tells : L → Fault → L → Type 0) where
     -- a stream was served to its end, and nothing was told; or a fault ended it that leaves the desk going, and that was told

@@ -1,13 +1,12 @@
 -- The run of a stream: its requests and how it ends, what is written for them, and what then stands.
 use Rattle.std.specs.Prelude.{◌≡◌, ◌⊎◌, ⊤, ℕ, ◌<◌, ◌≤◌, ◌+◌, ◌-◌, List, [], ◌++◌, length, take, Option, None, IfSome}
 use Rattle.std.specs.Io.KnownBytes.{Appends}
-use Rattle.sqlite_trees.specs.declared.store.Store.{Ghosts}
 use Rattle.ob_base.specs.declared.stop.Fault.{Fault}
 use Rattle.ob_base.specs.declared.stop.Fault.TheVariants.{OutOfMemory, Store, Reopen, Input, Output}
 use Rattle.ob_stream.specs.Watching.{HasJustFailed}
 use Rattle.ob_stream.specs.declared.watched.Watched.{Watched}
 use Rattle.ob_book.specs.Acts.{ActState}
-use Rattle.ob_store.specs.Keeping.{KeeperValue}
+use Rattle.ob_store.specs.Keepers.{Ghosts, KeeperValue}
 use Rattle.ob_requests.specs.Continue.{interim_text}
 use Rattle.ob_requests.specs.Head.{IsCutHead}
 use Rattle.ob_requests.specs.Message.{Message, IsCut, IsCutBody, IsRefused, ReadsKnown}

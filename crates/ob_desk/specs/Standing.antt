@@ -1,12 +1,10 @@
 -- How a keeper stands to a book, where there is one.
 use Rattle.std.specs.Prelude.{◌≡◌, ◌↔◌, Bool, Option, None, Some, IsSome, Result, Ok, Err}
-use Rattle.sqlite_trees.specs.declared.store.Store.{Ghosts}
-use Rattle.sqlite.specs.Held.{state}
-use Rattle.sqlite.specs.State.{HasCleanDisk}
 use Rattle.ob_base.specs.declared.stop.Fault.{Fault}
 use Rattle.ob_base.specs.declared.stop.Fault.TheVariants.{Reopen, Store}
 use Rattle.ob_book.specs.Acts.{ActState}
-use Rattle.ob_store.specs.Keeping.{KeeperValue, Ties}
+use Rattle.ob_store.specs.Calls.{WasClean}
+use Rattle.ob_store.specs.Keepers.{Ghosts, IsClean, KeeperValue, Ties}
 use Rattle.ob_requests.specs.Message.{Message}
 use Rattle.ob_routes.specs.Answers.{bookless}
 use Rattle.ob_routes.specs.Answering.{Answered}
@@ -20,13 +18,13 @@ module _ {S : Type 0} (g : Ghosts S) where
   -- However a call ends: a clean disk after it was one before it; without a book nothing changes; and a book is dropped exactly
   -- where the store has failed.
   pub record IsKept (old new : KeeperValue S) (fault : Option Fault) : Type 0 where
-    pub clean : HasCleanDisk (state g new.conn) → HasCleanDisk (state g old.conn)
+    pub clean : WasClean g old new
     pub unopened : old.book ≡ None → new ≡ old
     pub dropped : IsSome old.book → (new.book ≡ None) ↔ (fault ≡ Some Store)
 
   -- a call began over this book, on a disk that up to its end returns what was written; or over none
   abbrev pub Over : KeeperValue S → KeeperValue S → Option ActState → Type 0
-  Over old new (Some b) = HasCleanDisk (state g new.conn) × Ties g old b × IsSome old.book
+  Over old new (Some b) = IsClean g new × Ties g old b × IsSome old.book
   Over old new None = old.book ≡ None
 
   -- the keeper has this book, or none

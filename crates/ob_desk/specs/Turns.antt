@@ -1,14 +1,13 @@
 -- One turn of a stream: a request is read and answered, or the stream ends.
 use Rattle.std.specs.Prelude.{◌≡◌, ⊤, ℕ, Bool, List, [], ◌++◌, Option, None, IfSome}
 use Rattle.std.specs.Io.KnownBytes.{Appends, Keeps}
-use Rattle.sqlite_trees.specs.declared.store.Store.{Ghosts}
 use Rattle.ob_base.specs.declared.stop.Fault.{Fault}
 use Rattle.ob_base.specs.declared.stop.Fault.TheVariants.{OutOfMemory, Store, Reopen, Input, Output}
 use Rattle.ob_stream.specs.Streams.{AppendsFront}
 use Rattle.ob_stream.specs.Watching.{HasJustFailed}
 use Rattle.ob_stream.specs.declared.watched.Watched.{Watched}
 use Rattle.ob_book.specs.Acts.{ActState}
-use Rattle.ob_store.specs.Keeping.{KeeperValue}
+use Rattle.ob_store.specs.Keepers.{Ghosts, KeeperValue}
 use Rattle.ob_requests.specs.Continue.{interim_text}
 use Rattle.ob_requests.specs.Message.{Message, IsRefused, ReadsKnown}
 use Rattle.ob_requests.specs.Stream.{ends}

@@ -1,9 +1,6 @@
 //! Serves the streams of a listener, one after another.
-ghost use Rattle.std.specs.Prelude.{◌≡◌, ◌↔◌, true, false, None, Err, IsSome};
-ghost use Rattle.sqlite.specs.Held.{state};
-ghost use Rattle.sqlite.specs.State.{HasCleanDisk};
-ghost use Rattle.ob_book.specs.Acts.{ActState};
-ghost use Rattle.ob_store.specs.Keeping.{Ties};
+ghost use Rattle.std.specs.Prelude.{◌≡◌, ◌↔◌, true, false, None, Err};
+ghost use Rattle.ob_store.specs.Calls.{IfHeld};
 ghost use Rattle.ob_desk.specs.Crashes.{IsLeft};
 ghost use Rattle.ob_desk.specs.Listening.{LeavesKeeper, ServesStreams, desk_end, has_failed, streams_left, unserved_fault};
 ghost use Rattle.ob_desk.specs.Standing.{IsKept, fault_of};
@@ -11,10 +8,9 @@ ghost use Rattle.ob_desk.specs.Standing.{IsKept, fault_of};
 use crate::listener::Listener;
 use crate::stream::{Served, serve_stream};
 use ob_base::Fault;
-use ob_store::Keeper;
+use ob_store::{Alter, Keeper};
 use ob_stream::Watched;
 use ob_sweep::Timeline;
-use sqlite::Alter;
 use std::alloc::Global;
 use std::net::TcpStream;
 
@@ -109,9 +105,8 @@ fn serve_connection<S: Alter, T: Timeline>(
 ) -> Result<Served, Fault>
     ensures kept { IsKept S.Store keeper.old keeper.new (fault_of result) }
     ensures reopen { result ≡ Err Fault.Reopen → keeper.old.book ≡ None }
-    ensures left { HasCleanDisk (state S.Store keeper.new.conn) → (b : ActState)
-        → Ties S.Store keeper.old b → IsSome keeper.old.book
-        → IsLeft S.Store keeper.new b (fault_of result) }
+    ensures left { IfHeld S.Store keeper.old keeper.new
+        (λ b. IsLeft S.Store keeper.new b (fault_of result)) }
 {
     // A reply doesn't wait until the client has acknowledged the one before it. If the system
     // refuses this, replies are only later.

@@ -10,10 +10,9 @@ use ob_base::Fault;
 use ob_replies::{Status, empty_reply};
 use ob_requests::{HeadRefusal, Request};
 use ob_routes::{Routes, answer};
-use ob_store::Keeper;
+use ob_store::{Alter, Keeper};
 use ob_stream::{Retries, Watched, write_text};
 use ob_sweep::Timeline;
-use sqlite::Alter;
 use std::alloc::Global;
 use std::io::Write;
 

@@ -1,8 +1,7 @@
 //! Serves one stream.
 ghost use Rattle.std.specs.Prelude.{◌≡◌, ◌↔◌, [], None, Err, IsSome, IfErr, IfOk};
-ghost use Rattle.sqlite.specs.Held.{state};
-ghost use Rattle.sqlite.specs.State.{HasCleanDisk};
 ghost use Rattle.ob_stream.specs.Watching.{watched_bytes};
+ghost use Rattle.ob_store.specs.Calls.{WasClean};
 ghost use Rattle.ob_requests.specs.Unread.{unread};
 ghost use Rattle.ob_desk.specs.Serving.{Fails, Serves};
 ghost use Rattle.ob_desk.specs.Standing.{IsKept, fault_of};
@@ -11,10 +10,9 @@ use crate::turn::{Turn, serve_turn};
 use ob_base::Fault;
 use ob_requests::Ahead;
 use ob_routes::Routes;
-use ob_store::Keeper;
+use ob_store::{Alter, Keeper};
 use ob_stream::{Retries, Watched};
 use ob_sweep::Timeline;
-use sqlite::Alter;
 use std::alloc::Global;
 use std::io::{Read, Write};
 
@@ -54,8 +52,7 @@ pub fn serve_stream<R: Read, W: Write, S: Alter, T: Timeline>(
     ensures fails { IfErr result (Fails S.Store (watched_bytes R.remaining reader.old)
         (watched_bytes R.remaining reader.new) (watched_bytes W.contents writer.old)
         (watched_bytes W.contents writer.new) reader.new writer.new keeper.old keeper.new) }
-    ensures clean { HasCleanDisk (state S.Store keeper.new.conn)
-        → HasCleanDisk (state S.Store keeper.old.conn) }
+    ensures clean { WasClean S.Store keeper.old keeper.new }
     ensures unopened { keeper.old.book ≡ None → keeper.new ≡ keeper.old }
     ensures dropped { IsSome keeper.old.book → (keeper.new.book ≡ None)
         ↔ (result ≡ Err Fault.Store) }

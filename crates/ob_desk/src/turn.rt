@@ -12,10 +12,9 @@ use ob_base::Fault;
 use ob_replies::empty_reply;
 use ob_requests::{Ahead, Next, Request, read_request};
 use ob_routes::Routes;
-use ob_store::Keeper;
+use ob_store::{Alter, Keeper};
 use ob_stream::{Retries, Watched, write_text};
 use ob_sweep::Timeline;
-use sqlite::Alter;
 use std::alloc::Global;
 use std::io::{Read, Write};
 

@@ -4,9 +4,6 @@ use Rattle.std.specs.Prelude.{IsSome, IfSome, IfOk, IfErr, unwrap_or, option_map
 use Rattle.std.specs.Result.{is_ok}
 use Rattle.std.proofs.lemmas.Bool.{lt-ltb, le-ltb}
 use Rattle.std.proofs.lemmas.List.Sums.{fold_push}
-use Rattle.sqlite_trees.specs.declared.store.Store.{Ghosts}
-use Rattle.sqlite.specs.Held.{state}
-use Rattle.sqlite.specs.State.{HasCleanDisk}
 use Rattle.ob_base.specs.declared.stop.Fault.{Fault}
 use Rattle.ob_base.specs.declared.stop.Fault.TheVariants as faults
 use Rattle.ob_base.specs.declared.stop.Refusal.{Refusal}
@@ -19,11 +16,12 @@ use Rattle.ob_csv.specs.WholeRows.{WholeRowsStand, whole_rows}
 use Rattle.ob_csv.specs.Rows.{Fields, TakesRow, rows_of}
 use Rattle.ob_command.specs.Fields.{IsRow}
 use Rattle.ob_book.specs.Acts.{ActState, Referenced, Reply, act, acts, answer, is_accepted, take_on}
-use Rattle.ob_store.specs.Keeping.{KeeperValue, KeepsEitherBook, Ties}
 use Rattle.ob_store.specs.Acting.{Acted, IsActStop}
+use Rattle.ob_store.specs.Calls.{IfStored, WasClean}
+use Rattle.ob_store.specs.Keepers.{Ghosts, Holds, KeeperValue, StoresEither, Ties}
 use Rattle.ob_state.specs.State.{BookState}
 use Rattle.ob_record.specs.Reached.{ReachedCounts}
-use Rattle.ob_import.specs.Acting.{Adds, AddsRow, Holds}
+use Rattle.ob_import.specs.Acting.{Adds, AddsRow}
 use Rattle.ob_import.specs.Imports.{AreAnswered, EndsAt, Import, ImportsBody, ImportsRows, IsRefused, Say, Says, Stops, Taken, after_header}
 use Rattle.ob_import.specs.Gathering.{IsWithin, gathered_rows, is_over}
 use Rattle.ob_import.specs.Reports.{AreRows, Breaks, HasCause, HoldsAll, HoldsAllOf, HoldsFirst, HoldsWholeRows, Imported, IsNext, Leaves, LeavesOf, Runs, import_as, no_book}
@@ -180,17 +178,16 @@ module _ {S : Type 0} (g : Ghosts S) where
 
   -- the store failed at a row
   lost_row : (new : KeeperValue S) (c : ActState) (row : Fields) → AddsRow g new c row (Err (stops.Fault faults.Store))
-      → (a : Referenced) × Says row a × KeepsEitherBook (state g new.conn) c (act c a) × (new.book ≡ None)
+      → (a : Referenced) × Says row a × StoresEither g new c (act c a) × (new.book ≡ None)
   lost_row new c row (inl (a, says, made)) = (a, says, made.0, made.1)
   lost_row new c row (inr (r, is, err, holds)) = absurd (fault_not_refused faults.Store r err)
 
   -- the rows before the one of this number were taken, and the keeper holds what they left
   pub record SoFar (old now : KeeperValue S) (known left : Option (List Fields)) (added again number : ℕ) : Type 0 where
-    pub clean : HasCleanDisk (state g now.conn) → HasCleanDisk (state g old.conn)
+    pub clean : WasClean g old now
     pub is_there : IsSome now.book
     pub next : added + again + 1 ≡ number
-    pub begun : HasCleanDisk (state g now.conn) → (b : ActState) → Ties g old b
-        → (c : ActState) × (done : List Fields) × SplitAs known left done × Taken b c done added again × Holds g now c
+    pub begun : IfStored g old now (λ b. (c : ActState) × (done : List Fields) × SplitAs known left done × Taken b c done added again × Holds g now c)
 
   pub so_far_none : (old : KeeperValue S) (known : Option (List Fields)) → IsSome old.book → SoFar old old known known 0 0 1
   so_far_none old known is = record {
@@ -202,10 +199,10 @@ module _ {S : Type 0} (g : Ghosts S) where
 
   module _ (old now : KeeperValue S) (known left : Option (List Fields)) (added again number : ℕ) (it : SoFar old now known left added again number) where
     module _ (new : KeeperValue S) (after : Option (List Fields)) (row : Fields) (takes : TakesRow left after true row) (within : number ≤ 1_000_000)
-        (clean : HasCleanDisk (state g new.conn) → HasCleanDisk (state g now.conn)) where
+        (clean : WasClean g now new) where
       -- a row that was taken
       pub so_far_more : (is_new : Bool) (added2 again2 : ℕ) → (new.book ≡ None) ↔ (◌≡◌ {A = Result Bool Stop} (Ok is_new) (Err (stops.Fault faults.Store)))
-          → (HasCleanDisk (state g new.conn) → (b : ActState) → Ties g now b → AddsRow g new b row (Ok is_new))
+          → IfStored g now new (λ b. AddsRow g new b row (Ok is_new))
           → added2 ≡ added + cond is_new 1 0 → again2 ≡ again + cond is_new 0 1 → SoFar old new known after added2 again2 (number + 1)
       so_far_more is_new added2 again2 dropped acted more other =
           let both : added2 + again2 ≡ added + again + 1 = elim is_new as (λ t. added2 ≡ added + cond t 1 0 → again2 ≡ again + cond t 0 1 → added2 + again2 ≡ added + again + 1) [
@@ -251,7 +248,7 @@ module _ {S : Type 0} (g : Ghosts S) where
           )
 
       pub runs_refused : (refusal : Refusal) (whole : Bool) (rep : ImportReport) → (new.book ≡ None) ↔ (◌≡◌ {A = Result Bool Stop} (Err (stops.Refused refusal)) (Err (stops.Fault faults.Store)))
-          → (HasCleanDisk (state g new.conn) → (b : ActState) → Ties g now b → AddsRow g new b row (Err (stops.Refused refusal)))
+          → IfStored g now new (λ b. AddsRow g new b row (Err (stops.Refused refusal)))
           → rep.added ≡ added → rep.again ≡ again → rep.stopped ≡ Some (number, refusal) → Runs g (λ rows. Some rows) old new known whole (Ok rep)
       runs_refused refusal whole rep dropped acted is_added is_again is_stopped = record {
         clean = λ c. it.clean (clean c);
@@ -268,7 +265,7 @@ module _ {S : Type 0} (g : Ghosts S) where
 
       -- the store failed at the row, or memory was refused
       pub runs_fault : (fault : Fault) (whole : Bool) → IsActStop (stops.Fault fault) → (new.book ≡ None) ↔ (◌≡◌ {A = Result Bool Stop} (Err (stops.Fault fault)) (Err (stops.Fault faults.Store)))
-          → (HasCleanDisk (state g new.conn) → (b : ActState) → Ties g now b → AddsRow g new b row (Err (stops.Fault fault)))
+          → IfStored g now new (λ b. AddsRow g new b row (Err (stops.Fault fault)))
           → Runs g (λ rows. Some rows) old new known whole (Err (record { fault = fault; added = added; again = again }))
       runs_fault faults.OutOfMemory whole may dropped acted = record {
         clean = λ c. it.clean (clean c);
@@ -299,9 +296,9 @@ module _ {S : Type 0} (g : Ghosts S) where
       runs_fault faults.Output whole may dropped acted = absurd may
 
     module _ (new : KeeperValue S) (after : Option (List Fields)) (row : Fields) (takes : TakesRow left after true row) (within : number ≤ 1_000_000)
-        (clean : HasCleanDisk (state g new.conn) → HasCleanDisk (state g now.conn)) (stop : Stop)
+        (clean : WasClean g now new) (stop : Stop)
         (dropped : (new.book ≡ None) ↔ (◌≡◌ {A = Result Bool Stop} (Err stop) (Err (stops.Fault faults.Store))))
-        (acted : HasCleanDisk (state g new.conn) → (b : ActState) → Ties g now b → AddsRow g new b row (Err stop)) where
+        (acted : IfStored g now new (λ b. AddsRow g new b row (Err stop))) where
       pub runs_refused_by : (refusal : Refusal) (whole : Bool) (rep : ImportReport) → stop ≡ stops.Refused refusal
           → rep.added ≡ added → rep.again ≡ again → rep.stopped ≡ Some (number, refusal) → Runs g (λ rows. Some rows) old new known whole (Ok rep)
       runs_refused_by refusal whole rep is =
@@ -370,7 +367,7 @@ module _ {S : Type 0} (g : Ghosts S) where
     pub runs_unread : (fault : Fault) (whole : Bool) → HasCause fault (whole ≡ false) → fault ≢ faults.Store → (fault ≡ faults.Input → IfSome left (λ l. l ≡ []))
         → Runs g (λ rows. Some rows) old now known whole (Err (record { fault = fault; added = added; again = again }))
     runs_unread fault whole cause other none =
-        let first : HasCleanDisk (state g now.conn) → (b : ActState) → Ties g old b → (rows : List Fields) × AreRows known rows × HoldsFirst g now b rows added again = λ cl b ties.
+        let first : IfStored g old now (λ b. (rows : List Fields) × AreRows known rows × HoldsFirst g now b rows added again) = λ cl b ties.
         let was = it.begun cl b ties in
         let later : List Fields = unwrap_or left [] in
         (was.1 ++ later, are_rows known left was.1 later was.2 (left_itself left), (was.0, later, (was.1, refl, was.3), was.4)) in

@@ -1,9 +1,6 @@
 -- What an import tells, and what then stands.
 use Rattle.std.specs.Prelude.{◌≡◌, ◌↔◌, ◌⊎◌, ℕ, ⊤, Bool, true, false, List, [], ◌∷◌, Option, None, Result, Ok, Err, IfSome, IsSome, IfOk, IfErr, option_map, unwrap_or}
 use Rattle.std.specs.Io.KnownBytes.{Consumes}
-use Rattle.sqlite_trees.specs.declared.store.Store.{Ghosts}
-use Rattle.sqlite.specs.Held.{state}
-use Rattle.sqlite.specs.State.{HasCleanDisk}
 use Rattle.ob_base.specs.declared.stop.Fault.{Fault}
 use Rattle.ob_base.specs.declared.stop.Fault.TheVariants.{OutOfMemory, Store, Reopen, Input, Output}
 use Rattle.ob_csv.specs.Rows.{Fields, rows_of}
@@ -12,9 +9,9 @@ use Rattle.ob_stream.specs.Streams.{Passes}
 use Rattle.ob_stream.specs.Watching.{HasJustFailed, watched_bytes}
 use Rattle.ob_stream.specs.declared.watched.Watched.{Watched}
 use Rattle.ob_book.specs.Acts.{ActState, Referenced, act}
-use Rattle.ob_store.specs.Keeping.{KeeperValue, KeepsEitherBook, Ties}
+use Rattle.ob_store.specs.Calls.{IfHeld, IfStored, WasClean}
+use Rattle.ob_store.specs.Keepers.{Ghosts, Holds, KeeperValue, StoresEither}
 use Rattle.ob_import.specs.Imports.{Begins, Import, ImportsBody, Says, Taken, after_header}
-use Rattle.ob_import.specs.Acting.{Holds}
 use Rattle.ob_import.specs.Gathering.{IsWithin}
 use Rattle.ob_import.specs.declared.report.ImportReport.{ImportReport}
 use Rattle.ob_import.specs.declared.report.ImportFault.{ImportFault}
@@ -59,7 +56,7 @@ module _ {S : Type 0} (g : Ghosts S) where
   abbrev pub LosesNext : KeeperValue S → ActState → List Fields → ℕ → ℕ → Type 0
   LosesNext new b rows added again =
       (c : ActState) × (later : List Fields) × (a : Referenced) × Begins b c rows later added again × IsNext later a
-      × KeepsEitherBook (state g new.conn) c (act c a) × (new.book ≡ None)
+      × StoresEither g new c (act c a) × (new.book ≡ None)
 
   -- the keeper holds what all these rows left
   abbrev pub HoldsAll : KeeperValue S → ActState → List Fields → ℕ → ℕ → Type 0
@@ -101,22 +98,22 @@ module _ {S : Type 0} (g : Ghosts S) where
       (done : Result ImportReport ImportFault) : Type 0 where
     pub reopen : (old.book ≡ None) ↔ (done ≡ no_book)
     pub unopened : old.book ≡ None → new ≡ old
-    pub imported : HasCleanDisk (state g new.conn) → (b : ActState) → Ties g old b → IsSome old.book
-        → Imported new b (option_map rows_of (watched_bytes remaining was)) done
-    pub clean : HasCleanDisk (state g new.conn) → HasCleanDisk (state g old.conn)
+    pub imported : IfHeld g old new (λ b. Imported new b (option_map rows_of (watched_bytes remaining was)) done)
+    pub clean : WasClean g old new
     pub dropped : IsSome old.book → (new.book ≡ None) ↔ IsStoreFault done
     -- the reader failed, or it gave more bytes than a text may have
     pub cause : IsSome old.book → IfErr done (λ e. HasCause e.fault (HasJustFailed is ⊎ Passes (watched_bytes remaining was) 268435456))
-    pub broken : HasCleanDisk (state g new.conn) → (b : ActState) → Ties g old b → IsSome old.book
-        → IfErr done (λ e. e.fault ≡ Input → HoldsWholeRows new b (watched_bytes remaining was) (watched_bytes remaining is) e.added e.again)
+    pub broken : IfHeld g old new
+        (λ b. IfErr done (λ e. e.fault ≡ Input → HoldsWholeRows new b (watched_bytes remaining was) (watched_bytes remaining is) e.added e.again))
     pub bound : IfOk done (λ r. r.stopped ≡ None → IsWithin (watched_bytes remaining was) 268435456)
 
   -- all that an import of a book promises, of rows of which these are after the header and that are the whole text or not
   pub record Runs (body : List Fields → Option (List Fields)) (old new : KeeperValue S) (known : Option (List Fields)) (whole : Bool)
       (result : Result ImportReport ImportFault) : Type 0 where
-    pub clean : HasCleanDisk (state g new.conn) → HasCleanDisk (state g old.conn)
+    pub clean : WasClean g old new
     pub dropped : (new.book ≡ None) ↔ IsStoreFault result
     pub cause : IfErr result (λ e. HasCause e.fault (whole ≡ false))
     pub ended : IfOk result (λ r. r.stopped ≡ None → whole ≡ true)
-    pub left : HasCleanDisk (state g new.conn) → (b : ActState) → Ties g old b → LeavesOf body new b known result
-    pub all : HasCleanDisk (state g new.conn) → (b : ActState) → Ties g old b → IfErr result (λ e. e.fault ≡ Input → HoldsAllOf body new b known e.added e.again)
+    pub left : IfStored g old new (λ b. LeavesOf body new b known result)
+    pub all : IfStored g old new
+        (λ b. IfErr result (λ e. e.fault ≡ Input → HoldsAllOf body new b known e.added e.again))

@@ -1,11 +1,8 @@
 //! Applies one row of an import.
 ghost use Rattle.std.specs.Prelude.{◌≡◌, ◌↔◌, None, Err, IsSome, IfSome, IfErr};
-ghost use Rattle.sqlite.specs.Held.{state};
-ghost use Rattle.sqlite.specs.State.{HasCleanDisk};
 ghost use Rattle.ob_command.specs.Fields.{IsRow};
-ghost use Rattle.ob_book.specs.Acts.{ActState};
-ghost use Rattle.ob_store.specs.Keeping.{Ties};
 ghost use Rattle.ob_store.specs.Acting.{IsActStop};
+ghost use Rattle.ob_store.specs.Calls.{IfStored, WasClean};
 ghost use Rattle.ob_import.specs.Acting.{AddsRow};
 
 use ob_base::{Fault, Ref, Refusal, Stop};
@@ -13,9 +10,8 @@ use ob_book::Command;
 use ob_command::read_row;
 use ob_csv::Row;
 use ob_record::reached_law;
-use ob_store::Keeper;
+use ob_store::{Alter, Keeper};
 use ob_sweep::Timeline;
-use sqlite::Alter;
 
 /// Applies the command in a row, and returns whether it was new to the book.
 pub(crate) fn act_row<S: Alter, T: Timeline>(
@@ -24,11 +20,10 @@ pub(crate) fn act_row<S: Alter, T: Timeline>(
 ) -> Result<bool, Stop>
     requires { IsSome keeper.old.book }
     ensures faults { IfErr result IsActStop }
-    ensures clean { HasCleanDisk (state S.Store keeper.new.conn)
-        → HasCleanDisk (state S.Store keeper.old.conn) }
+    ensures clean { WasClean S.Store keeper.old keeper.new }
     ensures dropped { (keeper.new.book ≡ None) ↔ (result ≡ Err (Stop.Fault Fault.Store)) }
-    ensures acted { HasCleanDisk (state S.Store keeper.new.conn) → (b : ActState)
-        → Ties S.Store keeper.old b → AddsRow S.Store keeper.new b row.now result }
+    ensures acted { IfStored S.Store keeper.old keeper.new
+        (λ b. AddsRow S.Store keeper.new b row.now result) }
 {
     reached_law();
     let said = match command_in(row) {

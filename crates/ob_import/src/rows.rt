@@ -9,9 +9,8 @@ use crate::acting::act_row;
 use crate::report::{ImportFault, ImportReport};
 use ob_base::{Fault, Refusal, Stop};
 use ob_csv::{MOST_ROWS, Row, RowReader};
-use ob_store::{Keeper, Progress};
+use ob_store::{Alter, Keeper, Progress};
 use ob_sweep::Timeline;
-use sqlite::Alter;
 use std::alloc::Global;
 use std::io::Read;
 

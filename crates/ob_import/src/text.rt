@@ -1,10 +1,7 @@
 //! The imports: of a text, and of a reader's content.
 ghost use Rattle.std.specs.Prelude.{◌≡◌, ◌↔◌, None, Some, Err, IsSome, IfErr};
-ghost use Rattle.sqlite.specs.Held.{state};
-ghost use Rattle.sqlite.specs.State.{HasCleanDisk};
 ghost use Rattle.ob_csv.specs.Rows.{rows_of};
-ghost use Rattle.ob_book.specs.Acts.{ActState};
-ghost use Rattle.ob_store.specs.Keeping.{Ties};
+ghost use Rattle.ob_store.specs.Calls.{IfHeld, WasClean};
 ghost use Rattle.ob_import.specs.Imports.{ImportedAgain, ImportsMakeOneThing};
 ghost use Rattle.ob_import.specs.Reports.{HasCause, ImportOf, Imported, IsStoreFault, no_book};
 
@@ -14,10 +11,9 @@ use crate::rows::import_rows;
 use ob_base::Fault;
 use ob_command::rows_law;
 use ob_csv::{MOST_BYTES, RowReader, whole_rows_law};
-use ob_store::{Keeper, Progress, Silent, Work};
+use ob_store::{Alter, Keeper, Progress, Silent, Work};
 use ob_stream::{Retries, Watched};
 use ob_sweep::Timeline;
-use sqlite::Alter;
 use std::alloc::Global;
 use std::io::Read;
 
@@ -40,11 +36,9 @@ pub fn import_text<S: Alter, T: Timeline>(
 ) -> Result<ImportReport, ImportFault>
     ensures reopen { (keeper.old.book ≡ None) ↔ (result ≡ no_book) }
     ensures unopened { keeper.old.book ≡ None → keeper.new ≡ keeper.old }
-    ensures imported { HasCleanDisk (state S.Store keeper.new.conn) → (b : ActState)
-        → Ties S.Store keeper.old b → IsSome keeper.old.book
-        → Imported S.Store keeper.new b (Some (rows_of text.now)) result }
-    ensures clean { HasCleanDisk (state S.Store keeper.new.conn)
-        → HasCleanDisk (state S.Store keeper.old.conn) }
+    ensures imported { IfHeld S.Store keeper.old keeper.new
+        (λ b. Imported S.Store keeper.new b (Some (rows_of text.now)) result) }
+    ensures clean { WasClean S.Store keeper.old keeper.new }
     ensures dropped { IsSome keeper.old.book → (keeper.new.book ≡ None) ↔ IsStoreFault result }
     ensures cause { IsSome keeper.old.book → IfErr result (λ e. HasCause e.fault ⊥) }
 {

@@ -1,14 +1,13 @@
 -- How a job ends: its work, and the text that tells it.
 use Rattle.std.proofs.Common.{◌≡◌, ◌≢◌, ℕ, List, Option, Some, Result, Ok, Err, inl, inr, refl, sym, subst, ◌∙◌}
 use Rattle.std.specs.Bool.{⊤}
-use Rattle.sqlite_trees.specs.declared.store.Store.{Ghosts}
 use Rattle.ob_base.specs.declared.stop.Stop.{Stop}
 use Rattle.ob_base.specs.declared.stop.Stop.TheVariants.{Refused, Fault}
 use Rattle.ob_base.specs.declared.stop.Fault.TheVariants.{OutOfMemory, Store, Reopen, Input, Output}
 use Rattle.ob_compare.specs.Reading.{IsReadFault}
 use Rattle.ob_state.specs.State.{BookState}
 use Rattle.ob_book.specs.Views.{annual_table_of_book}
-use Rattle.ob_store.specs.Keeping.{KeeperValue}
+use Rattle.ob_store.specs.Keepers.{Ghosts, KeeperValue}
 use Rattle.ob_stream.specs.declared.watched.Watched.{Watched}
 use Rattle.ob_jobs.specs.Making.{MakingOf}
 use Rattle.ob_jobs.specs.Tabling.{HasTable, table_text}

@@ -5,7 +5,6 @@ use Rattle.std.specs.Io.KnownBytes.{Appends}
 use Rattle.std.proofs.KnownBytes.{Appends-trans}
 use Rattle.std.proofs.lemmas.List.{append_assoc, append-nil}
 use Rattle.std.proofs.lemmas.List.Concat.{flat_map-append}
-use Rattle.sqlite_trees.specs.declared.store.Store.{Ghosts}
 use Rattle.ob_base.specs.declared.stop.Fault.{Fault as AFault}
 use Rattle.ob_base.specs.declared.stop.Fault.TheVariants.{OutOfMemory, Store, Reopen, Input, Output}
 use Rattle.ob_base.specs.declared.stop.Stop.{Stop}
@@ -16,7 +15,8 @@ use Rattle.ob_stream.specs.declared.watched.Watched.{Watched}
 use Rattle.ob_state.specs.State.{BookState}
 use Rattle.ob_book.specs.Acts.{ActState}
 use Rattle.ob_tables.specs.Steps.{IsStoreFault}
-use Rattle.ob_store.specs.Keeping.{IsBookAfter, KeeperValue, Ties}
+use Rattle.ob_store.specs.Keepers.{Ghosts, KeeperValue, Ties}
+use Rattle.ob_store.specs.Keeping.{IsBookAfter}
 use Rattle.ob_store.specs.MovingOut.{IsBookAfterMoves, Numbered, Takes, TakesAll, FailsAmong, TakesFront, HandsOver, MovesOut, StoreFails, all_moves}
 use Rattle.ob_jobs.specs.declared.lines.Lines.{Lines}
 use Rattle.ob_jobs.specs.Text.{lines_of, moved_line}

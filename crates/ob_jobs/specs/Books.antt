@@ -1,10 +1,9 @@
 -- What each of the program's jobs does to the book in a store, and how it ends.
 use Rattle.std.specs.Prelude.{◌≡◌, ⊤, ℕ, List, Option, Result}
-use Rattle.sqlite_trees.specs.declared.store.Store.{Ghosts}
 use Rattle.ob_base.specs.declared.stop.Stop.{Stop}
 use Rattle.ob_base.specs.declared.stop.Fault.TheVariants.{Input, Output}
 use Rattle.ob_stream.specs.declared.watched.Watched.{Watched}
-use Rattle.ob_store.specs.Keeping.{KeeperValue}
+use Rattle.ob_store.specs.Keepers.{Ghosts, KeeperValue}
 use Rattle.ob_import.specs.declared.report.ImportReport.{ImportReport}
 use Rattle.ob_cli.specs.declared.status.Unfinished.{Unfinished}
 use Rattle.ob_jobs.specs.After.{TellsAfter}

@@ -1,8 +1,6 @@
 -- What an export leaves behind.
 use Rattle.std.specs.Prelude.{◌≡◌, ⊤, ℕ, List, ◌++◌, length, Option, None, Result, Ok, Err}
 use Rattle.std.specs.Io.KnownBytes.{Appends}
-use Rattle.sqlite_trees.specs.declared.store.Store.{Ghosts}
-use Rattle.sqlite.specs.Held.{state}
 use Rattle.ob_base.specs.declared.stop.Fault.{Fault as AFault}
 use Rattle.ob_base.specs.declared.stop.Fault.TheVariants.{OutOfMemory, Store, Output}
 use Rattle.ob_base.specs.declared.stop.Stop.{Stop}
@@ -11,8 +9,8 @@ use Rattle.ob_stream.specs.Streams.{AppendsFront}
 use Rattle.ob_stream.specs.Watching.{HasJustFailed, watched_bytes}
 use Rattle.ob_stream.specs.declared.watched.Watched.{Watched}
 use Rattle.ob_book.specs.Acts.{ActState}
-use Rattle.ob_tables.specs.Steps.{HasFailed}
-use Rattle.ob_store.specs.Keeping.{KeeperValue, KeepsBook, Ties}
+use Rattle.ob_store.specs.Calls.{StoreFailed}
+use Rattle.ob_store.specs.Keepers.{Ghosts, KeeperValue, Stores, Ties}
 use Rattle.ob_store.specs.MovingOut.{all_moves}
 
 -- a first part of the text was written
@@ -40,7 +38,7 @@ module _ {W : Type 0} (contents : W → Option (List ℕ)) where
   Exports g old new was is b text (Err (Fault OutOfMemory)) =
       AppendsPart was (watched_bytes contents is) text × Ties g new b × (new.book ≡ old.book)
   Exports g old new was is b text (Err (Fault Store)) =
-      AppendsPart was (watched_bytes contents is) text × KeepsBook (state g new.conn) b × (new.book ≡ None) × HasFailed (state g old.conn) (state g new.conn)
+      AppendsPart was (watched_bytes contents is) text × Stores g new b × (new.book ≡ None) × StoreFailed g old new
   Exports g old new was is b text (Err (Fault Output)) =
       AppendsPart was (watched_bytes contents is) text × HasJustFailed is × Ties g new b × (new.book ≡ old.book)
   Exports g old new was is b text (Err (Fault fault)) = ⊥

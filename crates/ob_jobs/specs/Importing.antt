@@ -1,17 +1,15 @@
 -- What an import and an export tell, and what they leave.
-use Rattle.std.specs.Prelude.{◌≡◌, ◌↔◌, ℕ, List, ◌++◌, Option, None, IsSome, Result, Ok, Err, IfErr, OnOk, codes}
+use Rattle.std.specs.Prelude.{◌≡◌, ◌↔◌, ℕ, List, ◌++◌, Option, None, Result, Ok, Err, IfErr, OnOk, codes}
 use Rattle.std.specs.Fmt.{decimal}
-use Rattle.sqlite_trees.specs.declared.store.Store.{Ghosts}
-use Rattle.sqlite.specs.Held.{state}
-use Rattle.sqlite.specs.State.{HasCleanDisk, Survives}
 use Rattle.ob_base.specs.declared.stop.Stop.{Stop}
 use Rattle.ob_base.specs.declared.stop.Stop.TheVariants.{Refused, Fault}
 use Rattle.ob_base.specs.declared.stop.Fault.{Fault as AFault}
 use Rattle.ob_base.specs.declared.stop.Fault.TheVariants as faults
 use Rattle.ob_stream.specs.Watching.{HasJustFailed, watched_bytes}
 use Rattle.ob_stream.specs.declared.watched.Watched.{Watched}
-use Rattle.ob_book.specs.Acts.{ActState}
-use Rattle.ob_store.specs.Keeping.{IsBookAfter, KeeperValue, Ties}
+use Rattle.ob_store.specs.Calls.{CommitsNothing, IfHeld, WasClean}
+use Rattle.ob_store.specs.Keepers.{Ghosts, KeeperValue}
+use Rattle.ob_store.specs.Keeping.{IsBookAfter}
 use Rattle.ob_import.specs.Reports.{ImportOf}
 use Rattle.ob_import.specs.declared.report.ImportReport.{ImportReport}
 use Rattle.ob_import.specs.declared.report.ImportFault.{ImportFault}
@@ -52,10 +50,9 @@ module _ {S : Type 0} (g : Ghosts S) where
     pub output : done ≡ Err (Fault faults.Output) → HasJustFailed is
     pub kept : OnOk done (new.book ≡ old.book)
     pub dropped : IfErr done (IsBookAfter old.book new.book)
-    pub clean : HasCleanDisk (state g new.conn) → HasCleanDisk (state g old.conn)
-    pub survives : Survives (state g old.conn) (state g new.conn) (λ _. ⊥)
-    pub exports : HasCleanDisk (state g new.conn) → (b : ActState) → Ties g old b → IsSome old.book
-        → Exports contents g old new (watched_bytes contents was) is b (moves_text b) done
+    pub clean : WasClean g old new
+    pub survives : CommitsNothing g old new
+    pub exports : IfHeld g old new (λ b. Exports contents g old new (watched_bytes contents was) is b (moves_text b) done)
 
   -- the export of a job, and what is told of it
   abbrev pub TellsExport : {F W : Type 0} → (F → Option (List ℕ)) → (W → Option (List ℕ)) → KeeperValue S → KeeperValue S

@@ -1,18 +1,15 @@
 -- What a job finds before it works: a book that is loaded, and an input or an output that is opened.
 use Rattle.std.specs.Prelude.{◌≡◌, ◌⊎◌, Option, Some, None, Result, Ok, Err, IfErr, OnOk}
-use Rattle.sqlite_trees.specs.declared.store.Store.{Ghosts}
-use Rattle.sqlite.specs.Held.{state}
-use Rattle.sqlite.specs.State.{HasCleanDisk, Survives}
 use Rattle.ob_base.specs.declared.stop.Stop.{Stop}
 use Rattle.ob_base.specs.declared.stop.Stop.TheVariants.{Fault}
 use Rattle.ob_base.specs.declared.stop.Fault.{Fault as AFault}
 use Rattle.ob_stream.specs.Watching.{watched_inner}
 use Rattle.ob_stream.specs.declared.watched.Watched.{Watched}
-use Rattle.ob_tables.specs.Creation.{old_schema}
-use Rattle.ob_tables.specs.Schema.{book_schema}
 use Rattle.ob_tables.specs.declared.table.Table.{Table}
+use Rattle.ob_store.specs.Calls.{CommitsNothing, OnOldTables, OnTables, ReadAnswers, WasClean}
 use Rattle.ob_store.specs.Crashing.{Loads}
-use Rattle.ob_store.specs.Keeping.{Answers, IsBookAfter, KeeperValue}
+use Rattle.ob_store.specs.Keepers.{Ghosts, KeeperValue}
+use Rattle.ob_store.specs.Keeping.{IsBookAfter}
 use Rattle.ob_store.specs.Loading.{Audited}
 use Rattle.ob_store.specs.Versions.{IsLoadFault, Outdated}
 
@@ -36,11 +33,11 @@ module _ {S : Type 0} (g : Ghosts S) where
     pub kept : OnOk found (new.book ≡ old.book)
     pub dropped : IfErr found (IsBookAfter old.book new.book)
     pub stops : IfErr found IsLoadFault
-    pub clean : HasCleanDisk (state g new.conn) → HasCleanDisk (state g old.conn)
-    pub survives : Survives (state g old.conn) (state g new.conn) (λ _. ⊥)
-    pub answers : Answers g old.conn new.conn found
-    pub audited : HasCleanDisk (state g new.conn) → old.conn.schema ≡ book_schema → Audited g old new found
-    pub outdated : HasCleanDisk (state g new.conn) → old.conn.schema ≡ old_schema → Outdated g old new found
+    pub clean : WasClean g old new
+    pub survives : CommitsNothing g old new
+    pub answers : ReadAnswers g old new found
+    pub audited : OnTables g old new (Audited g old new found)
+    pub outdated : OnOldTables g old new (Outdated g old new found)
 
   -- the book of the tables was loaded, and then this was done over it; or none was loaded, which is answered, and nothing was done
   abbrev pub LoadsThen : {X : Type 0} → (KeeperValue S → Result X Stop → Type 0) → Type 0 → KeeperValue S → KeeperValue S

@@ -1,9 +1,8 @@
 -- What a job makes of a book, by its name.
 use Rattle.std.specs.Prelude.{◌≡◌, ⊤, ℕ, Bool, true, false, List, Option, Result}
-use Rattle.sqlite_trees.specs.declared.store.Store.{Ghosts}
 use Rattle.ob_base.specs.declared.stop.Stop.{Stop}
 use Rattle.ob_stream.specs.declared.watched.Watched.{Watched}
-use Rattle.ob_store.specs.Keeping.{KeeperValue}
+use Rattle.ob_store.specs.Keepers.{Ghosts, KeeperValue}
 use Rattle.ob_cli.specs.declared.status.Unfinished.{Unfinished}
 use Rattle.ob_jobs.specs.Books.{AuditsBook, ExportsFromBook, ImportsIntoBook, MakesBook, MigratesBook, PrintsBook, ServesBook}
 use Rattle.ob_jobs.specs.declared.tasks.Task.{Task}

@@ -10,10 +10,9 @@ use crate::tell::tell;
 use ob_base::{Fault, Stop};
 use ob_cli::Unfinished;
 use ob_import::{ImportReport, Progress, import_with_progress};
-use ob_store::Keeper;
+use ob_store::{Alter, Keeper};
 use ob_stream::Watched;
 use ob_sweep::Timeline;
-use sqlite::Alter;
 use std::alloc::{AllocError, Global};
 use std::io::Write;
 

@@ -9,10 +9,9 @@ use crate::ending::end_of_job;
 use crate::tell::tell;
 use ob_base::Stop;
 use ob_cli::Unfinished;
-use ob_store::Keeper;
+use ob_store::{Alter, Keeper};
 use ob_stream::Watched;
 use ob_sweep::Timeline;
-use sqlite::Alter;
 use std::io::Write;
 
 /// Upgrades a book of version 1 to version 2, as [`run_migrate`].

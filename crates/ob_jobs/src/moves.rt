@@ -1,20 +1,17 @@
 //! Exports the changes of amounts that accepted commands made.
 ghost use Rattle.std.specs.Prelude.{◌≡◌, ◌≢◌, ◌↔◌, None, Err, IsSome, IfErr, OnOk};
-ghost use Rattle.sqlite.specs.Held.{state};
-ghost use Rattle.sqlite.specs.State.{HasCleanDisk, Survives};
 ghost use Rattle.ob_stream.specs.Watching.{HasJustFailed, watched_bytes};
-ghost use Rattle.ob_book.specs.Acts.{ActState};
-ghost use Rattle.ob_store.specs.Keeping.{IsBookAfter, Ties};
+ghost use Rattle.ob_store.specs.Calls.{CommitsNothing, IfHeld, IfStored, WasClean};
+ghost use Rattle.ob_store.specs.Keeping.{IsBookAfter};
 ghost use Rattle.ob_store.specs.MovingOut.{all_moves};
 ghost use Rattle.ob_jobs.specs.Text.{lines_of, moves_text};
 ghost use Rattle.ob_jobs.specs.Exporting.{Exports};
 
 use crate::lines::Lines;
 use ob_base::{Fault, Stop};
-use ob_store::Keeper;
+use ob_store::{Alter, Keeper};
 use ob_stream::{Retries, Watched, write_text};
 use ob_sweep::Timeline;
-use sqlite::Alter;
 use std::alloc::Global;
 use std::io::Write;
 
@@ -31,13 +28,11 @@ fn write_lines<W: Write, S: Alter, T: Timeline>(
     ensures output { result ≡ Err (Stop.Fault Fault.Output) → HasJustFailed writer.new }
     ensures kept { OnOk result (keeper.new.book ≡ keeper.old.book) }
     ensures dropped { IfErr result (IsBookAfter keeper.old.book keeper.new.book) }
-    ensures clean { HasCleanDisk (state S.Store keeper.new.conn)
-        → HasCleanDisk (state S.Store keeper.old.conn) }
-    ensures survives { Survives (state S.Store keeper.old.conn) (state S.Store keeper.new.conn)
-        (λ _. ⊥) }
-    ensures exports { HasCleanDisk (state S.Store keeper.new.conn) → (b : ActState)
-        → Ties S.Store keeper.old b → Exports W.contents S.Store keeper.old keeper.new
-        (watched_bytes W.contents writer.old) writer.new b (lines_of (all_moves b)) result }
+    ensures clean { WasClean S.Store keeper.old keeper.new }
+    ensures survives { CommitsNothing S.Store keeper.old keeper.new }
+    ensures exports { IfStored S.Store keeper.old keeper.new
+        (λ b. Exports W.contents S.Store keeper.old keeper.new
+        (watched_bytes W.contents writer.old) writer.new b (lines_of (all_moves b)) result) }
 {
     let mut lines = Lines::new(alloc, writer, retries);
     keeper.moves_out(&mut lines)
@@ -59,14 +54,11 @@ pub fn export_moves<W: Write, S: Alter, T: Timeline>(
     ensures output { result ≡ Err (Stop.Fault Fault.Output) → HasJustFailed writer.new }
     ensures kept { OnOk result (keeper.new.book ≡ keeper.old.book) }
     ensures dropped { IfErr result (IsBookAfter keeper.old.book keeper.new.book) }
-    ensures clean { HasCleanDisk (state S.Store keeper.new.conn)
-        → HasCleanDisk (state S.Store keeper.old.conn) }
-    ensures survives { Survives (state S.Store keeper.old.conn) (state S.Store keeper.new.conn)
-        (λ _. ⊥) }
-    ensures exports { HasCleanDisk (state S.Store keeper.new.conn) → (b : ActState)
-        → Ties S.Store keeper.old b → IsSome keeper.old.book
-        → Exports W.contents S.Store keeper.old keeper.new (watched_bytes W.contents writer.old)
-        writer.new b (moves_text b) result }
+    ensures clean { WasClean S.Store keeper.old keeper.new }
+    ensures survives { CommitsNothing S.Store keeper.old keeper.new }
+    ensures exports { IfHeld S.Store keeper.old keeper.new
+        (λ b. Exports W.contents S.Store keeper.old keeper.new
+        (watched_bytes W.contents writer.old) writer.new b (moves_text b) result) }
 {
     if keeper.book().is_none() {
         return Err(Stop::Fault(Fault::Reopen));

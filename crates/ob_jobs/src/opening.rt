@@ -1,9 +1,8 @@
 //! What the program passes to a job: an input or an output that the job opens only when it needs
 //! it, and a server that takes its port then.
 use ob_base::Stop;
-use ob_store::Keeper;
+use ob_store::{Alter, Keeper};
 use ob_sweep::Timeline;
-use sqlite::Alter;
 use std::io::{Read, Write};
 
 /// The input of an import, not opened yet.
@@ -40,7 +39,7 @@ pub trait OpenOutput {
 pub trait ServeBook<S: Alter, T: Timeline> {
     ghost use Rattle.std.specs.Prelude.{⊤, Result};
     ghost use Rattle.ob_base.specs.declared.stop.Stop.{Stop as AStop};
-    ghost use Rattle.ob_store.specs.Keeping.{KeeperValue};
+    ghost use Rattle.ob_store.specs.Keepers.{KeeperValue};
 
     /// The port, once it is taken.
     type Port: Drop;

@@ -5,9 +5,8 @@ use crate::ending::end_of_job;
 use crate::opening::ServeBook;
 use ob_cli::Unfinished;
 use ob_import::Progress;
-use ob_store::Keeper;
+use ob_store::{Alter, Keeper};
 use ob_sweep::Timeline;
-use sqlite::Alter;
 
 /// Loads a book, then takes the port, and serves the book there.
 pub fn serve_book<V: ServeBook<S, T>, S: Alter, T: Timeline, P: Progress>(

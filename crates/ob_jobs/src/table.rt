@@ -9,10 +9,9 @@ use crate::tell::tell;
 use ob_base::{Fault, Stop};
 use ob_cli::Unfinished;
 use ob_import::Progress;
-use ob_store::Keeper;
+use ob_store::{Alter, Keeper};
 use ob_stream::Watched;
 use ob_sweep::Timeline;
-use sqlite::Alter;
 use std::io::Write;
 
 /// Loads a book and prints its annual table, as [`run_table`].

@@ -8,10 +8,9 @@ use crate::{
 };
 use ob_cli::Unfinished;
 use ob_import::Progress;
-use ob_store::Keeper;
+use ob_store::{Alter, Keeper};
 use ob_stream::Watched;
 use ob_sweep::Timeline;
-use sqlite::Alter;
 use std::alloc::Global;
 use std::io::Write;
 

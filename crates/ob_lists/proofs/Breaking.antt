@@ -1,12 +1,11 @@
 -- What a fault of a stream leaves of the book that answered its requests.
 use Rattle.std.proofs.Common.{inl, inr, ℕ, Bool, List, [], ◌∷◌, ◌++◌, Option, None, Some, Err, refl, subst}
-use Rattle.sqlite_trees.specs.declared.store.Store.{Ghosts}
 use Rattle.ob_base.specs.declared.stop.Fault.{Fault}
 use Rattle.ob_base.specs.declared.stop.Fault.TheVariants.{OutOfMemory, Store, Reopen, Input, Output}
 use Rattle.ob_stream.specs.declared.watched.Watched.{Watched}
 use Rattle.ob_csv.specs.Rows.{rows_of}
 use Rattle.ob_book.specs.Acts.{ActState, Referenced, acts}
-use Rattle.ob_store.specs.Keeping.{KeeperValue, Ties}
+use Rattle.ob_store.specs.Keepers.{Ghosts, KeeperValue, Ties}
 use Rattle.ob_import.specs.Imports.{after_header}
 use Rattle.ob_requests.specs.Continue.{interim_text}
 use Rattle.ob_requests.specs.Message.{path_of}

@@ -1,11 +1,10 @@
 -- What an import makes of a book that the store may have.
 use Rattle.std.proofs.Common.{◌≡◌, inl, inr, ℕ, List, ◌++◌, Option, None, Ok, Err, IsSome, refl, sym, subst}
-use Rattle.sqlite_trees.specs.declared.store.Store.{Ghosts}
 use Rattle.ob_base.specs.declared.stop.Fault.{Fault}
 use Rattle.ob_base.specs.declared.stop.Fault.TheVariants.{OutOfMemory, Store, Reopen, Input, Output}
 use Rattle.ob_csv.specs.Rows.{Fields}
 use Rattle.ob_book.specs.Acts.{ActState, act}
-use Rattle.ob_store.specs.Keeping.{KeeperValue, Ties}
+use Rattle.ob_store.specs.Keepers.{Ghosts, KeeperValue, Ties}
 use Rattle.ob_import.specs.Reports.{AreRows, Breaks, Imported, no_book}
 use Rattle.ob_lists.specs.Importing.{Ended, body_of}
 use Rattle.ob_lists.specs.Standing.{MayBe, Stands, Told, told_by_import}

@@ -2,14 +2,11 @@
 use Rattle.std.proofs.Common.{◌≡◌, inl, inr, ℕ, ◌-◌, List, [], ◌∷◌, ◌++◌, length, Option, None, Some, Result, Ok, Err, IfErr, IsSome, refl, subst}
 use Rattle.std.specs.Prelude.{⊤, ◌↔◌, IfOk}
 use Rattle.std.proofs.lemmas.List.Sums.{fold-append}
-use Rattle.sqlite_trees.specs.declared.store.Store.{Ghosts}
-use Rattle.sqlite.specs.Held.{state}
-use Rattle.sqlite.specs.State.{HasCleanDisk}
 use Rattle.ob_base.specs.declared.stop.Fault.{Fault}
 use Rattle.ob_base.specs.declared.stop.Fault.TheVariants.{OutOfMemory, Store, Reopen, Input, Output}
 use Rattle.ob_stream.specs.declared.watched.Watched.{Watched}
 use Rattle.ob_book.specs.Acts.{ActState, Referenced, act, acts}
-use Rattle.ob_store.specs.Keeping.{KeeperValue, Ties}
+use Rattle.ob_store.specs.Keepers.{Ghosts, IsClean, KeeperValue, Ties}
 use Rattle.ob_requests.specs.Message.{Message}
 use Rattle.ob_routes.specs.Answers.{BooklessAnswersStay}
 use Rattle.ob_desk.specs.Crashes.{IsLeft}
@@ -69,7 +66,7 @@ module _ {S : Type 0} (g : Ghosts S) (old new : KeeperValue S) (b : ActState) (b
     left_stands (Some Output) (done, ties) lost = tied done ties
 
   -- the streams of a listener
-  pub desk_stands : (r : Result ⊤ Unserved) → LeavesKeeper g old new r → HasCleanDisk (state g new.conn) → Stands g (MayBe b before) old
+  pub desk_stands : (r : Result ⊤ Unserved) → LeavesKeeper g old new r → IsClean g new → Stands g (MayBe b before) old
       → Stands g (MayBe b (served ∷ before)) new
   desk_stands r leaves clean stands = elim (by_book g old new (MayBe b before) old.book refl stands) [
     | inl none ↦
@@ -80,7 +77,7 @@ module _ {S : Type 0} (g : Ghosts S) (old new : KeeperValue S) (b : ActState) (b
   ]
 
   -- a stream
-  module _ (law : BooklessAnswersStay) (bytes had has : Option (List ℕ)) (unopened : old.book ≡ None → new ≡ old) (clean : HasCleanDisk (state g new.conn)) where
+  module _ (law : BooklessAnswersStay) (bytes had has : Option (List ℕ)) (unopened : old.book ≡ None → new ≡ old) (clean : IsClean g new) where
     to_its_end : (done : Served) → Serves g bytes had has old new done.requests → Stands g (MayBe b before) old
         → Stands g (MayBe b (told_by_stream bytes had has (Ok done) ++ before)) new
     to_its_end done run stands = elim (by_book g old new (MayBe b before) old.book refl stands) [

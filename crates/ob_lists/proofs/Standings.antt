@@ -1,9 +1,6 @@
 -- What each call makes of a book that the store may have.
-use Rattle.std.proofs.Common.{◌≡◌, ◌⊎◌, inl, inr, ℕ, Bool, true, false, List, ◌++◌, length, Option, Some, None, Result, Ok, Err, IsTrue, is_some, IsSome, IfSome, IfErr, IsErr, OnOk, refl, sym, ap, subst, ◌∙◌, arith}
+use Rattle.std.proofs.Common.{◌≡◌, ◌⊎◌, inl, inr, ℕ, Bool, true, false, List, ◌++◌, Option, Some, None, Result, Ok, Err, is_some, IsSome, IfSome, IfErr, IsErr, OnOk, refl, sym, ap, subst, ◌∙◌}
 use Rattle.std.specs.Prelude.{⊤}
-use Rattle.sqlite_trees.specs.declared.store.Store.{Ghosts}
-use Rattle.sqlite.specs.Held.{state}
-use Rattle.sqlite.specs.State.{HasCleanDisk}
 use Rattle.ob_base.specs.declared.stop.Stop.{Stop}
 use Rattle.ob_base.specs.declared.stop.Stop.TheVariants.{Refused, Fault}
 use Rattle.ob_base.specs.declared.stop.Fault.{Fault as AFault}
@@ -12,24 +9,17 @@ use Rattle.ob_base.specs.declared.stop.Refusal.{Refusal}
 use Rattle.ob_base.specs.declared.stop.Refusal.TheVariants.{BadField, UnknownName, NameTaken, OutOfPeriod, UnknownEntry, Stale, Withdrawn, UnknownCustomer, BadService, RefConflict, Full, MarkedAlready, NotMarked, UnknownCause, BadPeriod, BadBook, BadLife, OldVersion}
 use Rattle.ob_state.specs.State.{BookState}
 use Rattle.ob_book.specs.Acts.{ActState, Referenced, act}
-use Rattle.ob_tables.specs.Creation.{old_schema}
-use Rattle.ob_tables.specs.Schema.{book_schema, no_schema}
-use Rattle.ob_tables.specs.declared.version.Version.TheVariants.{One}
-use Rattle.ob_compare.specs.Version.{HasVersion}
-use Rattle.ob_commit.specs.Keeps.{IsSettledIn}
-use Rattle.ob_parts.specs.OldTables.{HasOldBook, old_tables_of}
 use Rattle.ob_store.specs.Acting.{Acted, reply_as}
+use Rattle.ob_store.specs.Calls.{MigratesOldTables, MigratesStoredBook, MigrationAnswers, StillStores, WasEmpty}
 use Rattle.ob_store.specs.Crashing.{HasLoaded, LoadLaw, Loads}
-use Rattle.ob_store.specs.Creating.{Created, HeldNothing}
-use Rattle.ob_store.specs.Keeping.{IsBookAfter, KeeperValue, KeepsBook, KeepsOn, Ties}
-use Rattle.ob_store.specs.Loading.{trees_in}
-use Rattle.ob_store.specs.Migrating.{KeepsEitherVersion, KeepsOldBook, Migrated, MigratesKept, MigratesOn}
+use Rattle.ob_store.specs.Creating.{Created}
+use Rattle.ob_store.specs.Keepers.{Ghosts, HasOldTables, IsClean, IsOpen, KeeperValue, StatesOld, Stores, StoresEitherVersion, StoresOld, Ties}
+use Rattle.ob_store.specs.Keeping.{IsBookAfter}
 use Rattle.ob_store.specs.MovingOut.{MovesOut, StoreFails, Takes}
 use Rattle.ob_store.specs.Replying.{Replied}
 use Rattle.ob_store.specs.Versions.{IsLoadFault, Outdated}
 use Rattle.ob_store.specs.declared.reply.Reply.{Reply as GivenReply}
-use Rattle.ob_store.proofs.OldBooks.{has_one}
-use Rattle.ob_store.proofs.Upgrading.{two_versions}
+use Rattle.ob_store.proofs.KeeperLaws.{as_either_version, migrated_never, migrated_stores, none_of_two, none_of_versions, none_stored, shows_old, states_old}
 use Rattle.ob_lists.specs.Standing.{InUpgrade, KeptOld, MayBe, Stands, Told, told_by}
 use Rattle.ob_lists.specs.Going.{Finds, LoadsOne}
 
@@ -62,13 +52,13 @@ stands_as g k Is Js so (inr (inr (inr it))) = inr (inr (inr (record { book = it.
 
 module _ {S : Type 0} (g : Ghosts S) (old new : KeeperValue S) where
   -- a book that is kept, and that of the keeper as before or none
-  tie_as_before : (x : ActState) → Ties g old x → KeepsBook (state g new.conn) x → new.book ≡ old.book → Ties g new x
+  tie_as_before : (x : ActState) → Ties g old x → Stores g new x → new.book ≡ old.book → Ties g new x
   tie_as_before x ties keeps same = record { kept = keeps; book = subst (λ b. IfSome b (λ s. s ≡ x.book)) (sym same) ties.book }
 
-  pub tie_none : (x : ActState) → KeepsBook (state g new.conn) x → new.book ≡ None → Ties g new x
+  pub tie_none : (x : ActState) → Stores g new x → new.book ≡ None → Ties g new x
   tie_none x keeps none = record { kept = keeps; book = subst (λ b. IfSome b (λ s. s ≡ x.book)) (sym none) tt }
 
-  tie_after : (x : ActState) → Ties g old x → KeepsBook (state g new.conn) x → (new.book ≡ old.book) ⊎ (new.book ≡ None) → Ties g new x
+  tie_after : (x : ActState) → Ties g old x → Stores g new x → (new.book ≡ old.book) ⊎ (new.book ≡ None) → Ties g new x
   tie_after x ties keeps (inl same) = tie_as_before x ties keeps same
   tie_after x ties keeps (inr none) = tie_none x keeps none
 
@@ -78,7 +68,7 @@ module _ {S : Type 0} (g : Ghosts S) (old new : KeeperValue S) where
 
   module _ (Is : ActState → Type 0) where
     -- what the store kept it keeps on
-    pub kept_on : KeepsOn (state g old.conn) (state g new.conn) → (new.book ≡ old.book) ⊎ (new.book ≡ None) → Stands g Is old → Stands g Is new
+    pub kept_on : StillStores g old new → (new.book ≡ old.book) ⊎ (new.book ≡ None) → Stands g Is old → Stands g Is new
     kept_on on how (inl it) = inl (record { book = it.book; is = it.is; ties = tie_after it.book it.ties (on.book it.book it.ties.kept) how })
     kept_on on how (inr (inl it)) = inr (inl (record {
       book = it.book;
@@ -104,19 +94,14 @@ module _ {S : Type 0} (g : Ghosts S) (old new : KeeperValue S) where
     by_book (Some s) e (inr (inr (inl it))) = inl it.lost
     by_book (Some s) e (inr (inr (inr it))) = inl it.lost
 
-    -- the tables that an open store shows of a book of version 1
-    old_settled : HasCleanDisk (state g old.conn) → IsTrue (state g old.conn).is_open → KeptOld g Is old ⊎ InUpgrade g Is old
-        → (x : ActState) × Is x × IsSettledIn One (state g old.conn) (old_tables_of x) × HasOldBook (trees_in g old.conn) x
-    old_settled clean live (inl it) =
-        let settled = it.keeps.kept.settled clean live in
-        (it.book, it.is, settled, record { reached = it.keeps.reached; valid = it.keeps.valid; tables = settled.holds.rows })
-    old_settled clean live (inr it) =
-        let settled = it.keeps.kept.settled clean live in
-        (it.book, it.is, settled, record { reached = it.keeps.reached; valid = it.keeps.valid; tables = settled.holds.rows })
+    -- what there may be of a book of version 1
+    old_book : KeptOld g Is old ⊎ InUpgrade g Is old → (x : ActState) × Is x × StoresEitherVersion g old x
+    old_book (inl it) = (it.book, it.is, as_either_version g old it.book it.keeps)
+    old_book (inr it) = (it.book, it.is, it.keeps)
 
     -- ---- a load
     -- a book that was found is the one that there may be
-    load_found : LoadLaw g → Loads g old new (Ok tt) → HasCleanDisk (state g new.conn) → Stands g Is old → HasLoaded g Is new (Ok tt)
+    load_found : LoadLaw g → Loads g old new (Ok tt) → IsClean g new → Stands g Is old → HasLoaded g Is new (Ok tt)
     load_found law loads clean (inl it) =
         let got = (law old new (Ok tt) loads clean).0 it.book it.ties.kept in
         (got.0, subst Is (sym got.1) it.is, got.2, got.3)
@@ -124,17 +109,17 @@ module _ {S : Type 0} (g : Ghosts S) (old new : KeeperValue S) where
         let got = (law old new (Ok tt) loads clean).1 it.book it.other it.keeps in
         (got.0, subst Is (sym got.1) it.is, got.2, got.3)
     load_found law loads clean (inr (inr it)) =
-        let found = old_settled (loads.clean clean) (loads.answers.live clean tt) it in
-        absurd (loads.outdated clean found.2.schema)
+        let found = old_book it in
+        absurd (loads.outdated clean (shows_old g old found.0 found.2 (loads.clean clean) (loads.answers.live clean tt)))
 
-    pub load_stands : LoadLaw g → (r : Result ⊤ Stop) → Loads g old new r → HasCleanDisk (state g new.conn) → Stands g Is old → Stands g Is new
+    pub load_stands : LoadLaw g → (r : Result ⊤ Stop) → Loads g old new r → IsClean g new → Stands g Is old → Stands g Is new
     load_stands law (Ok done) loads clean stands =
         let got = load_found law loads clean stands in
         inl (record { book = got.0; is = got.1; ties = got.2 })
     load_stands law (Err stop) loads clean stands = kept_on loads.answers.keeps (after_stop old.book new.book stop loads.dropped) stands
 
     -- over the tables of version 1 that version is told
-    told_old : (r : Refusal) → HasVersion 1 (trees_in g old.conn) → KeptOld g Is old ⊎ InUpgrade g Is old → Outdated g {X = ⊤} old new (Err (Refused r)) → LoadsOne g Is old new (Err (Refused r))
+    told_old : (r : Refusal) → StatesOld g old → KeptOld g Is old ⊎ InUpgrade g Is old → Outdated g {X = ⊤} old new (Err (Refused r)) → LoadsOne g Is old new (Err (Refused r))
     told_old (BadField at) one it told = absurd told
     told_old UnknownName one it told = absurd told
     told_old NameTaken one it told = absurd told
@@ -162,13 +147,15 @@ module _ {S : Type 0} (g : Ghosts S) (old new : KeeperValue S) where
     load_fault Input may = elim may [ inl read ↦ elim read [ inl store ↦ elim store [ inl e ↦ absurd cc | inr e ↦ absurd cc ] | inr e ↦ absurd cc ] | inr e ↦ absurd cc ]
     load_fault Output may = elim may [ inl read ↦ elim read [ inl store ↦ elim store [ inl e ↦ absurd cc | inr e ↦ absurd cc ] | inr e ↦ absurd cc ] | inr e ↦ absurd cc ]
 
-    pub loads_one : LoadLaw g → (r : Result ⊤ Stop) → Loads g old new r → HasCleanDisk (state g new.conn) → Stands g Is old → LoadsOne g Is old new r
+    pub loads_one : LoadLaw g → (r : Result ⊤ Stop) → Loads g old new r → IsClean g new → Stands g Is old → LoadsOne g Is old new r
     loads_one law (Ok done) loads clean stands = load_found law loads clean stands
     loads_one law (Err (Refused r)) loads clean (inl it) = absurd ((law old new (Err (Refused r)) loads clean).0 it.book it.ties.kept)
     loads_one law (Err (Refused r)) loads clean (inr (inl it)) = absurd ((law old new (Err (Refused r)) loads clean).1 it.book it.other it.keeps)
     loads_one law (Err (Refused r)) loads clean (inr (inr it)) =
-        let found = old_settled (loads.clean clean) (loads.answers.live clean tt) it in
-        told_old r (has_one (trees_in g old.conn) found.0 found.3) it (loads.outdated clean found.2.schema)
+        let found = old_book it in
+        let was_clean = loads.clean clean in
+        let live = loads.answers.live clean tt in
+        told_old r (states_old g old found.0 found.2 was_clean live) it (loads.outdated clean (shows_old g old found.0 found.2 was_clean live))
     loads_one law (Err (Fault f)) loads clean stands = load_fault f loads.stops
 
     -- ---- a stored reply, and what was moved
@@ -210,45 +197,38 @@ module _ {S : Type 0} (g : Ghosts S) (old new : KeeperValue S) where
       ]
 
     -- ---- a migration
-    as_either_version : (x : ActState) → KeepsOldBook (state g old.conn) x → KeepsEitherVersion (state g old.conn) x
-    as_either_version x keeps = record {
-      kept = record { settled = keeps.kept.settled; left = λ clean trees may. inl (keeps.kept.left clean trees may) };
-      reached = keeps.reached;
-      valid = keeps.valid;
-    }
-
     -- the clauses of a migration
-    module _ (r : Result Bool Stop) (on : MigratesOn g old.conn new.conn r) (clean : HasCleanDisk (state g new.conn)) (was_clean : HasCleanDisk (state g old.conn))
+    module _ (r : Result Bool Stop) (on : MigrationAnswers g old new r) (clean : IsClean g new) (was_clean : IsClean g old)
         (how : (new.book ≡ old.book) ⊎ (new.book ≡ None)) where
-      in_upgrade : (x : ActState) → Is x → KeepsEitherVersion (state g new.conn) x → old.book ≡ None → Stands g Is new
+      in_upgrade : (x : ActState) → Is x → StoresEitherVersion g new x → old.book ≡ None → Stands g Is new
       in_upgrade x is keeps lost = inr (inr (inr (record { book = x; is = is; keeps = keeps; lost = still_lost lost how })))
 
-      now_kept : (x : ActState) → Is x → KeepsBook (state g new.conn) x → old.book ≡ None → Stands g Is new
+      now_kept : (x : ActState) → Is x → Stores g new x → old.book ≡ None → Stands g Is new
       now_kept x is keeps lost = inl (record { book = x; is = is; ties = tie_none x keeps (still_lost lost how) })
 
-    migrated_kept : (r : Result Bool Stop) (on : MigratesOn g old.conn new.conn r) (clean : HasCleanDisk (state g new.conn)) (was_clean : HasCleanDisk (state g old.conn))
-        (how : (new.book ≡ old.book) ⊎ (new.book ≡ None)) (it : KeptOld g Is old) → (IsTrue (state g old.conn).is_open → MigratesKept g new.conn it.book r) → Stands g Is new
+    migrated_kept : (r : Result Bool Stop) (on : MigrationAnswers g old new r) (clean : IsClean g new) (was_clean : IsClean g old)
+        (how : (new.book ≡ old.book) ⊎ (new.book ≡ None)) (it : KeptOld g Is old) → (IsOpen g old → MigratesStoredBook g new it.book r) → Stands g Is new
     migrated_kept (Ok true) on clean was_clean how it kept = now_kept (Ok true) on clean was_clean how it.book it.is (kept (on.live clean tt)) it.lost
     migrated_kept (Ok false) on clean was_clean how it kept = absurd (kept (on.live clean tt))
     migrated_kept (Err (Refused r)) on clean was_clean how it kept = absurd (kept (on.live clean tt))
     migrated_kept (Err (Fault f)) on clean was_clean how it kept =
-        in_upgrade (Err (Fault f)) on clean was_clean how it.book it.is (on.version clean it.book (as_either_version it.book it.keeps)) it.lost
+        in_upgrade (Err (Fault f)) on clean was_clean how it.book it.is (on.version clean it.book (as_either_version g old it.book it.keeps)) it.lost
 
-    migrated_either : (r : Result Bool Stop) (on : MigratesOn g old.conn new.conn r) (clean : HasCleanDisk (state g new.conn)) (was_clean : HasCleanDisk (state g old.conn))
-        (how : (new.book ≡ old.book) ⊎ (new.book ≡ None)) (it : InUpgrade g Is old) → (old.conn.schema ≡ old_schema → Migrated g old.conn new.conn r) → Stands g Is new
+    migrated_either : (r : Result Bool Stop) (on : MigrationAnswers g old new r) (clean : IsClean g new) (was_clean : IsClean g old)
+        (how : (new.book ≡ old.book) ⊎ (new.book ≡ None)) (it : InUpgrade g Is old) → (HasOldTables old → MigratesOldTables g old new r) → Stands g Is new
     migrated_either (Ok true) on clean was_clean how it migrated =
-        let found = old_settled was_clean (on.live clean tt) (inr it) in
-        let made = migrated found.2.schema in
-        now_kept (Ok true) on clean was_clean how found.0 found.1 (subst (λ (x : ActState). KeepsBook (state g new.conn) x) (sym (made.1.1 found.0 found.3)) made.2) it.lost
+        let live = on.live clean tt in
+        let made = migrated (shows_old g old it.book it.keeps was_clean live) in
+        now_kept (Ok true) on clean was_clean how it.book it.is (migrated_stores g old it.book it.keeps was_clean live new made) it.lost
     migrated_either (Ok false) on clean was_clean how it migrated =
-        let found = old_settled was_clean (on.live clean tt) (inr it) in
-        absurd (two_versions (trees_in g old.conn) (has_one (trees_in g old.conn) found.0 found.3) (migrated found.2.schema).0)
+        let live = on.live clean tt in
+        absurd (migrated_never g old it.book it.keeps was_clean live new (migrated (shows_old g old it.book it.keeps was_clean live)))
     migrated_either (Err stop) on clean was_clean how it migrated =
         in_upgrade (Err stop) on clean was_clean how it.book it.is (on.version clean it.book it.keeps) it.lost
 
-    pub migrate_stands : (r : Result Bool Stop) → MigratesOn g old.conn new.conn r → HasCleanDisk (state g new.conn) → HasCleanDisk (state g old.conn)
-        → (new.book ≡ old.book) ⊎ (new.book ≡ None) → (old.conn.schema ≡ old_schema → Migrated g old.conn new.conn r)
-        → (IsTrue (state g old.conn).is_open → (x : ActState) → KeepsOldBook (state g old.conn) x → MigratesKept g new.conn x r) → Stands g Is old → Stands g Is new
+    pub migrate_stands : (r : Result Bool Stop) → MigrationAnswers g old new r → IsClean g new → IsClean g old
+        → (new.book ≡ old.book) ⊎ (new.book ≡ None) → (HasOldTables old → MigratesOldTables g old new r)
+        → (IsOpen g old → (x : ActState) → StoresOld g old x → MigratesStoredBook g new x r) → Stands g Is old → Stands g Is new
     migrate_stands r on clean was_clean how migrated kept (inl it) =
         inl (record { book = it.book; is = it.is; ties = tie_after it.book it.ties (on.book it.book it.ties.kept) how })
     migrate_stands r on clean was_clean how migrated kept (inr (inl it)) = inr (inl (record {
@@ -263,25 +243,19 @@ module _ {S : Type 0} (g : Ghosts S) (old new : KeeperValue S) where
     migrate_stands r on clean was_clean how migrated kept (inr (inr (inr it))) = migrated_either r on clean was_clean how it migrated
 
     -- ---- a new book where there may be one
-    not_empty : book_schema ≡ no_schema → ⊥
-    not_empty e = let n : ◌≡◌ {A = ℕ} 11 0 = ap (λ s. length s.tables) e in omega (arith, n)
+    -- there was something in a database where a book may be
+    held_nothing : IsClean g old → IsClean g new → WasEmpty g old new → Stands g Is old → ⊥
+    held_nothing was_clean clean empty (inl it) = none_stored g old new it.book was_clean clean empty it.ties.kept
+    held_nothing was_clean clean empty (inr (inl it)) = none_of_two g old new it.book was_clean clean empty it.other it.keeps
+    held_nothing was_clean clean empty (inr (inr it)) = let found = old_book it in none_of_versions g old new found.0 was_clean clean empty found.2
 
-    not_empty_old : old_schema ≡ no_schema → ⊥
-    not_empty_old e = let n : ◌≡◌ {A = ℕ} 10 0 = ap (λ s. length s.tables) e in omega (arith, n)
-
-    -- a database that an open store shows holds something where a book may be
-    held_nothing : HasCleanDisk (state g old.conn) → HasCleanDisk (state g new.conn) → HeldNothing (state g old.conn) (state g new.conn) → Stands g Is old → ⊥
-    held_nothing was_clean clean held (inl it) = not_empty (sym (it.ties.kept.kept.settled was_clean (held.live clean)).schema ∙ held.schema)
-    held_nothing was_clean clean held (inr (inl it)) = not_empty (sym (it.keeps.kept.settled was_clean (held.live clean)).schema ∙ held.schema)
-    held_nothing was_clean clean held (inr (inr it)) = not_empty_old (sym (old_settled was_clean (held.live clean) it).2.schema ∙ held.schema)
-
-    pub create_refused : (first : List ℕ) (days : ℕ) (zone : List ℕ) (r : Result ⊤ Stop) → Created g old new first days zone r → HasCleanDisk (state g new.conn)
-        → HasCleanDisk (state g old.conn) → Stands g Is old → IsErr r
+    pub create_refused : (first : List ℕ) (days : ℕ) (zone : List ℕ) (r : Result ⊤ Stop) → Created g old new first days zone r → IsClean g new
+        → IsClean g old → Stands g Is old → IsErr r
     create_refused first days zone (Ok done) made clean was_clean stands = absurd (held_nothing was_clean clean made.2 stands)
     create_refused first days zone (Err stop) made clean was_clean stands = refl
 
-    pub create_stands : (first : List ℕ) (days : ℕ) (zone : List ℕ) (r : Result ⊤ Stop) → Created g old new first days zone r → HasCleanDisk (state g new.conn)
-        → HasCleanDisk (state g old.conn) → Stands g Is old → Stands g Is new
+    pub create_stands : (first : List ℕ) (days : ℕ) (zone : List ℕ) (r : Result ⊤ Stop) → Created g old new first days zone r → IsClean g new
+        → IsClean g old → Stands g Is old → Stands g Is new
     create_stands first days zone (Ok done) made clean was_clean stands = absurd (held_nothing was_clean clean made.2 stands)
     create_stands first days zone (Err (Refused (BadField at))) made clean was_clean stands = absurd made
     create_stands first days zone (Err (Refused UnknownName)) made clean was_clean stands = absurd made

@@ -1,9 +1,6 @@
 -- What any list of calls on a keeper comes to, with crashes and openings between them.
 use Rattle.std.specs.Prelude.{◌≡◌, ◌⊎◌, ⊤, ℕ, true, List, [], ◌++◌, length, Contains, Option, Some, None, Result, Ok, Err, IsErr}
 use Rattle.std.specs.List.{AllByRecursion}
-use Rattle.sqlite_trees.specs.declared.store.Store.{Ghosts}
-use Rattle.sqlite.specs.Held.{state}
-use Rattle.sqlite.specs.State.{HasCleanDisk}
 use Rattle.ob_base.specs.declared.stop.Stop.{Stop}
 use Rattle.ob_base.specs.declared.stop.Stop.TheVariants.{Refused, Fault}
 use Rattle.ob_base.specs.declared.stop.Refusal.TheVariants.{OldVersion}
@@ -12,12 +9,10 @@ use Rattle.ob_time.specs.Calendar.{Calendar}
 use Rattle.ob_time.specs.Period.{IsPeriodText}
 use Rattle.ob_csv.specs.Rows.{Fields}
 use Rattle.ob_book.specs.Acts.{ActState, Referenced, is_same, start}
-use Rattle.ob_commit.specs.Keeps.{KeepsNumbers}
 use Rattle.ob_import.specs.Imports.{Says}
 use Rattle.ob_import.specs.Reports.{AreRows}
-use Rattle.ob_store.specs.Acting.{HasActCause}
-use Rattle.ob_store.specs.Crashing.{OpensAfterCrash}
-use Rattle.ob_store.specs.Keeping.{KeeperValue, Ties}
+use Rattle.ob_store.specs.Calls.{HasCommandCause, OpensAfter}
+use Rattle.ob_store.specs.Keepers.{Ghosts, IsClean, KeeperValue, StoresNumbers, Ties}
 use Rattle.ob_lists.specs.Importing.{Ended, body_of, counted}
 use Rattle.ob_lists.specs.Streaming.{Accepts, AnswersStream, Stream}
 use Rattle.ob_lists.specs.Standing.{InUpgrade, KeptOld, MayBe, Stands, Told, acknowledged, imported, streamed}
@@ -26,13 +21,13 @@ module _ {S R : Type 0} (g : Ghosts S) (h : Ghosts R) where
   -- the one keeper has become the other, and this was told in between, the newest first: whatever was told before, what the store
   -- had of a book it has, with what was told since
   pub record Goes (told : List Told) (old : KeeperValue S) (new : KeeperValue R) : Type 0 where
-    pub clean : HasCleanDisk (state h new.conn) → HasCleanDisk (state g old.conn)
-    pub stands : HasCleanDisk (state h new.conn) → (b : ActState) (before : List Told)
+    pub clean : IsClean h new → IsClean g old
+    pub stands : IsClean h new → (b : ActState) (before : List Told)
         → Stands g (MayBe b before) old → Stands h (MayBe b (told ++ before)) new
 
   -- a process ended at any moment, and a keeper was made over what a crash left of its store
   pub record Restarts (old : KeeperValue S) (new : KeeperValue R) : Type 0 where
-    pub opens : OpensAfterCrash g h old.conn new.conn
+    pub opens : OpensAfter g h old new
     pub book : new.book ≡ None
 
   abbrev pub RestartLaw : Type 0
@@ -75,13 +70,13 @@ module _ {S : Type 0} (g : Ghosts S) where
 
   -- where the store is told to have failed on a command, that has its cause, over one of these books
   abbrev pub ActsForCause : {X : Type 0} → (ActState → Type 0) → KeeperValue S → KeeperValue S → Referenced → Result X Stop → Type 0
-  ActsForCause Is old new a result = (x : ActState) × Is x × HasActCause g old.conn new.conn x a result
+  ActsForCause Is old new a result = (x : ActState) × Is x × HasCommandCause g old new x a result
 
   -- a new book of the period that the texts name stands, with what was told since; and whatever a crash leaves has hidden row numbers
   -- 1, 2, 3 and so on
   abbrev pub BegunNumbered : List ℕ → ℕ → List ℕ → List Told → KeeperValue S → Type 0
   BegunNumbered first days zone told new =
-      (p : Calendar) × IsPeriodText first days zone p × Stands g (MayBe (start p) told) new × KeepsNumbers (state g new.conn)
+      (p : Calendar) × IsPeriodText first days zone p × Stands g (MayBe (start p) told) new × StoresNumbers g new
 
 -- an accepted command of the book has the reference and the body text
 abbrev pub Holds : ActState → Referenced → Type 0

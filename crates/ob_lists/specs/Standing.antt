@@ -1,17 +1,12 @@
 -- What the store of a keeper has of a book after a list of calls, and which book that may be.
-use Rattle.std.specs.Prelude.{◌≡◌, ◌⊎◌, ℕ, List, [], ◌∷◌, Option, None, Result, Ok, Err, IsTrue}
-use Rattle.sqlite_trees.specs.declared.store.Store.{Ghosts}
-use Rattle.sqlite.specs.Held.{state}
-use Rattle.sqlite.specs.State.{IsLive}
+use Rattle.std.specs.Prelude.{◌≡◌, ◌⊎◌, ℕ, List, [], ◌∷◌, Option, None, Result, Ok, Err}
 use Rattle.ob_base.specs.declared.stop.Stop.{Stop}
 use Rattle.ob_base.specs.declared.stop.Stop.TheVariants.{Refused, Fault}
 use Rattle.ob_base.specs.declared.stop.Fault.{Fault as AFault}
 use Rattle.ob_base.specs.declared.stop.Fault.TheVariants.{Reopen, Store}
 use Rattle.ob_csv.specs.Rows.{Fields}
 use Rattle.ob_book.specs.Acts.{ActState, Referenced, act, acts}
-use Rattle.ob_tables.specs.Schema.{no_schema}
-use Rattle.ob_store.specs.Keeping.{KeeperValue, KeepsEitherBook, Ties}
-use Rattle.ob_store.specs.Migrating.{KeepsEitherVersion, KeepsOldBook}
+use Rattle.ob_store.specs.Keepers.{Ghosts, KeeperValue, StoresEither, StoresEitherVersion, StoresOld, Ties}
 use Rattle.ob_store.specs.declared.reply.Reply.{Reply as GivenReply}
 use Rattle.ob_desk.specs.declared.stream.Served.{Served}
 use Rattle.ob_lists.specs.Importing.{Ended, MakesOf}
@@ -70,30 +65,23 @@ module _ {S : Type 0} (g : Ghosts S) (Is : ActState → Type 0) (k : KeeperValue
     pub other : ActState
     pub is : Is book
     pub other_is : Is other
-    pub keeps : KeepsEitherBook (state g k.conn) book other
+    pub keeps : StoresEither g k book other
     pub lost : k.book ≡ None
 
   -- its store keeps a book in the tables of version 1, and the keeper has none
   pub record KeptOld : Type 0 where
     pub book : ActState
     pub is : Is book
-    pub keeps : KeepsOldBook (state g k.conn) book
+    pub keeps : StoresOld g k book
     pub lost : k.book ≡ None
 
   -- its store keeps a book in these, or a crash leaves it in those of version 2; the keeper has none
   pub record InUpgrade : Type 0 where
     pub book : ActState
     pub is : Is book
-    pub keeps : KeepsEitherVersion (state g k.conn) book
+    pub keeps : StoresEitherVersion g k book
     pub lost : k.book ≡ None
 
   -- one of these
   abbrev pub Stands : Type 0
   Stands = Kept ⊎ (InDoubt ⊎ (KeptOld ⊎ InUpgrade))
-
--- the store of a keeper is open, and holds nothing
-pub record HoldsNothing {S : Type 0} (g : Ghosts S) (k : KeeperValue S) : Type 0 where
-  pub live : IsTrue (state g k.conn).is_open
-  pub whole : IsLive (state g k.conn)
-  pub schema : k.conn.schema ≡ no_schema
-  pub committed : (state g k.conn).now ≡ (state g k.conn).committed

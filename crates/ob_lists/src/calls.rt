@@ -1,12 +1,10 @@
 //! The calls on the storage layer (`Keeper`), each as a part of a list of calls.
 ghost use Rattle.std.specs.Prelude.{[], ◌∷◌, List, Some, IsErr, option_map};
-ghost use Rattle.sqlite.specs.State.{HasCleanDisk};
-ghost use Rattle.sqlite.specs.Held.{state};
 ghost use Rattle.ob_stream.specs.Watching.{watched_bytes};
 ghost use Rattle.ob_csv.specs.Rows.{rows_of};
 ghost use Rattle.ob_book.specs.Acts.{ActState};
-ghost use Rattle.ob_commit.specs.Keeps.{KeepsNumbers};
 ghost use Rattle.ob_store.specs.Acting.{under};
+ghost use Rattle.ob_store.specs.Keepers.{IsClean, StoresNumbers};
 ghost use Rattle.ob_lists.specs.Standing.{MayBe, Stands, Told, served, told_by, told_by_import, told_by_stream};
 ghost use Rattle.ob_lists.specs.Going.{ActsForCause, Goes, LoadsOne};
 
@@ -15,11 +13,10 @@ use ob_command::Command;
 use ob_desk::{FaultLog, Listener, Served, Unserved};
 use ob_import::{ImportFault, ImportReport};
 use ob_routes::answers_law;
-use ob_store::{Keeper, MoveSink, Reply, load_law};
+use ob_store::{Alter, Keeper, MoveSink, Reply, load_law};
 use ob_stream::Watched;
 use ob_sweep::Timeline;
 use ob_tables::Table;
-use sqlite::Alter;
 use std::alloc::Global;
 use std::io::{Read, Write};
 
@@ -33,14 +30,12 @@ pub fn act<S: Alter, T: Timeline>(
 ) -> Result<Reply, Stop>
     ensures goes { Goes S.Store S.Store (told_by (under reference command) result) keeper.old
         keeper.new }
-    ensures cause { HasCleanDisk (state S.Store keeper.new.conn) → (b : ActState)
-        (told : List Told) → Stands S.Store (MayBe b told) keeper.old
-        → KeepsNumbers (state S.Store keeper.old.conn)
+    ensures cause { IsClean S.Store keeper.new → (b : ActState) (told : List Told)
+        → Stands S.Store (MayBe b told) keeper.old → StoresNumbers S.Store keeper.old
         → ActsForCause S.Store (MayBe b told) keeper.old keeper.new (under reference command)
         result }
     ensures numbered { (b : ActState) (told : List Told) → Stands S.Store (MayBe b told) keeper.old
-        → KeepsNumbers (state S.Store keeper.old.conn)
-        → KeepsNumbers (state S.Store keeper.new.conn) }
+        → StoresNumbers S.Store keeper.old → StoresNumbers S.Store keeper.new }
 {
     keeper.act(reference, command)
 }
@@ -49,11 +44,10 @@ pub fn act<S: Alter, T: Timeline>(
 /// crash may leave stay as they were.
 pub fn load<S: Alter, T: Timeline>(keeper: &mut Keeper<S, T>) -> Result<(), Stop>
     ensures goes { Goes S.Store S.Store [] keeper.old keeper.new }
-    ensures loads { HasCleanDisk (state S.Store keeper.new.conn) → (b : ActState)
-        (told : List Told) → Stands S.Store (MayBe b told) keeper.old
+    ensures loads { IsClean S.Store keeper.new → (b : ActState) (told : List Told)
+        → Stands S.Store (MayBe b told) keeper.old
         → LoadsOne S.Store (MayBe b told) keeper.old keeper.new result }
-    ensures numbered { KeepsNumbers (state S.Store keeper.old.conn)
-        → KeepsNumbers (state S.Store keeper.new.conn) }
+    ensures numbered { StoresNumbers S.Store keeper.old → StoresNumbers S.Store keeper.new }
 {
     load_law::<S>();
     keeper.load()
@@ -102,8 +96,8 @@ pub fn create_again<S: Alter, T: Timeline>(
     zone: &[u8],
 ) -> Result<(), Stop>
     ensures goes { Goes S.Store S.Store [] keeper.old keeper.new }
-    ensures refused { HasCleanDisk (state S.Store keeper.new.conn) → (b : ActState)
-        (told : List Told) → Stands S.Store (MayBe b told) keeper.old → IsErr result }
+    ensures refused { IsClean S.Store keeper.new → (b : ActState) (told : List Told)
+        → Stands S.Store (MayBe b told) keeper.old → IsErr result }
 {
     keeper.create(first, days, zone)
 }

@@ -3,7 +3,7 @@ ghost use Rattle.ob_lists.specs.Going.{JoinLaw, RestartLaw, RowsLaw, StreamsLaw,
 
 use ob_parts::upgrade_law;
 use ob_routes::answers_law;
-use sqlite::Alter;
+use ob_store::Alter;
 
 /// A process may end at any moment: a `Keeper` over what the crash left of its store goes on from
 /// the same state.

@@ -1,11 +1,10 @@
 //! Some lists of calls, each with what its last call answers or leaves.
 ghost use Rattle.std.specs.Prelude.{◌++◌, List, Some, IsErr, OnOk};
-ghost use Rattle.sqlite.specs.State.{HasCleanDisk};
-ghost use Rattle.sqlite.specs.Held.{state};
 ghost use Rattle.ob_csv.specs.Rows.{rows_of};
 ghost use Rattle.ob_book.specs.Acts.{ActState};
 ghost use Rattle.ob_store.specs.Acting.{under};
-ghost use Rattle.ob_lists.specs.Standing.{HoldsNothing, MayBe, Stands, Told, told_by, told_by_import};
+ghost use Rattle.ob_store.specs.Keepers.{HoldsNothing, IsClean};
+ghost use Rattle.ob_lists.specs.Standing.{MayBe, Stands, Told, told_by, told_by_import};
 ghost use Rattle.ob_lists.specs.Going.{Begun, BegunNumbered, Finds};
 
 use crate::calls::{act, audit, create_again, import_text, load, migrate};
@@ -13,10 +12,9 @@ use crate::laws::restart_law;
 use ob_base::{Ref, Stop};
 use ob_command::Command;
 use ob_import::{ImportFault, ImportReport};
-use ob_store::{Keeper, Reply, crash_law, load_law};
+use ob_store::{Alter, Keeper, Reply, crash_law, load_law};
 use ob_sweep::Timeline;
 use ob_tables::Table;
-use sqlite::Alter;
 use std::alloc::Global;
 
 /// The end of a process, and a `Keeper` that another process makes over what the first one left.
@@ -36,7 +34,7 @@ pub fn act_load_load<S: Alter, T: Timeline>(
     reference: Ref,
     command: Command,
 ) -> (Result<Reply, Stop>, Result<(), Stop>)
-    ensures { HasCleanDisk (state S.Store keeper.new.conn) → (b : ActState) (told : List Told)
+    ensures { IsClean S.Store keeper.new → (b : ActState) (told : List Told)
         → Stands S.Store (MayBe b told) keeper.old
         → Finds S.Store (MayBe b (told_by (under reference command) result.0 ++ told)) keeper.new
         result.1 }
@@ -55,7 +53,7 @@ pub fn act_create<S: Alter, T: Timeline>(
     days: u16,
     zone: &[u8],
 ) -> (Result<Reply, Stop>, Result<(), Stop>)
-    ensures { HasCleanDisk (state S.Store keeper.new.conn) → (b : ActState) (told : List Told)
+    ensures { IsClean S.Store keeper.new → (b : ActState) (told : List Told)
         → Stands S.Store (MayBe b told) keeper.old → IsErr result.1
         × Stands S.Store (MayBe b (told_by (under reference command) result.0 ++ told)) keeper.new }
 {
@@ -72,7 +70,7 @@ pub fn create_restart_load<S: Alter, R: Alter, T: Timeline, C: Restart<S, R, T>>
     days: u16,
     zone: &[u8],
 ) -> (Result<(), Stop>, Keeper<R, T>, Result<(), Stop>)
-    ensures { HasCleanDisk (state R.Store result.1.conn) → HoldsNothing S.Store keeper
+    ensures { IsClean R.Store result.1 → HoldsNothing S.Store keeper
         → Begun R.Store first.now days zone.now result.0 result.1 result.2 }
 {
     load_law::<R>();
@@ -95,7 +93,7 @@ pub fn create_act_restart_load<S: Alter, R: Alter, T: Timeline, C: Restart<S, R,
     reference: Ref,
     command: Command,
 ) -> (Result<(), Stop>, Result<Reply, Stop>, Keeper<R, T>)
-    ensures { HasCleanDisk (state R.Store result.2.conn) → OnOk result.0
+    ensures { IsClean R.Store result.2 → OnOk result.0
         (BegunNumbered R.Store first.now days zone.now
         (told_by (under reference command) result.1) result.2) }
 {
@@ -114,7 +112,7 @@ pub fn migrate_restart_migrate_load<S: Alter, R: Alter, T: Timeline, C: Restart<
     mut keeper: Keeper<S, T>,
     crash: &mut C,
 ) -> (Keeper<R, T>, Result<(), Stop>)
-    ensures { HasCleanDisk (state R.Store result.0.conn) → (b : ActState) (told : List Told)
+    ensures { IsClean R.Store result.0 → (b : ActState) (told : List Told)
         → Stands S.Store (MayBe b told) keeper
         → Finds R.Store (MayBe b told) result.0 result.1 }
 {
@@ -130,7 +128,7 @@ pub fn migrate_restart_migrate_load<S: Alter, R: Alter, T: Timeline, C: Restart<
 pub fn migrate_load_audit<S: Alter, T: Timeline>(
     keeper: &mut Keeper<S, T>,
 ) -> Result<Option<Table>, Stop>
-    ensures { HasCleanDisk (state S.Store keeper.new.conn) → (b : ActState) (told : List Told)
+    ensures { IsClean S.Store keeper.new → (b : ActState) (told : List Told)
         → Stands S.Store (MayBe b told) keeper.old
         → Stands S.Store (MayBe b told) keeper.new }
 {
@@ -154,7 +152,7 @@ pub fn act_import_restart_load<S: Alter, R: Alter, T: Timeline, C: Restart<S, R,
     Keeper<R, T>,
     Result<(), Stop>,
 )
-    ensures { HasCleanDisk (state R.Store result.2.conn) → (b : ActState) (told : List Told)
+    ensures { IsClean R.Store result.2 → (b : ActState) (told : List Told)
         → Stands S.Store (MayBe b told) keeper
         → Finds R.Store (MayBe b (told_by_import (Some (rows_of text.now)) result.1
         ++ (told_by (under reference command) result.0 ++ told))) result.2 result.3 }

@@ -1,7 +1,6 @@
 -- What the parts of an answer make of a keeper, put together by cases on the reply or the fault.
 use Rattle.std.proofs.Common.{◌≡◌, ◌∙◌, sym, ap, subst, refl, ℕ, Bool, List, [], Option, Some, None, Result, Ok, Err, inl, inr, if◌then◌else◌, is_none}
 use Rattle.std.specs.Prelude.{◌&&◌, unwrap_or}
-use Rattle.sqlite_trees.specs.declared.store.Store.{Ghosts}
 use Rattle.ob_base.specs.declared.stop.Fault.{Fault}
 use Rattle.ob_base.specs.declared.stop.Fault.TheVariants.{OutOfMemory, Store, Reopen, Input, Output}
 use Rattle.ob_base.specs.declared.stop.Refusal.{Refusal}
@@ -9,7 +8,7 @@ use Rattle.ob_command.specs.declared.command.Command.{Command}
 use Rattle.ob_state.specs.Refusals.{refusal}
 use Rattle.ob_book.specs.Acts.{ActState, Referenced, Reply, act, answer, answer_under, number_of, take_on}
 use Rattle.ob_store.specs.Acting.{under}
-use Rattle.ob_store.specs.Keeping.{KeeperValue, Ties}
+use Rattle.ob_store.specs.Keepers.{Ghosts, KeeperValue, Ties}
 use Rattle.ob_csv.specs.Rows.{Fields, rows_of}
 use Rattle.ob_import.specs.Imports.{ImportsBody, after_header}
 use Rattle.ob_import.specs.Reports.{Breaks, HasCause, Imported, import_as}

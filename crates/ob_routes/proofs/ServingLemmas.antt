@@ -1,9 +1,6 @@
 -- What the parts of the desk make of a keeper, with a book and without one, by cases on what the calls below answered.
 use Rattle.std.proofs.Common.{◌≡◌, ◌↔◌, ◌∙◌, sym, ap, subst, refl, ℕ, Bool, true≢false, List, Option, Some, None, Result, Ok, Err, inl, inr, is_some, is_ok}
 use Rattle.std.specs.Prelude.{IsSome, IfErr, option_map}
-use Rattle.sqlite_trees.specs.declared.store.Store.{Ghosts}
-use Rattle.sqlite.specs.Held.{state}
-use Rattle.sqlite.specs.State.{HasCleanDisk}
 use Rattle.ob_base.specs.declared.stop.Fault.{Fault}
 use Rattle.ob_base.specs.declared.stop.Fault.TheVariants.{OutOfMemory, Store, Reopen, Input, Output}
 use Rattle.ob_base.specs.declared.stop.Refusal.{Refusal}
@@ -13,7 +10,8 @@ use Rattle.ob_state.specs.State.{BookState}
 use Rattle.ob_tables.specs.Steps.{IsStoreFault}
 use Rattle.ob_book.specs.Acts.{ActState, Referenced, Reply}
 use Rattle.ob_store.specs.Acting.{Acted, IsActStop, reply_as}
-use Rattle.ob_store.specs.Keeping.{KeeperValue, Ties}
+use Rattle.ob_store.specs.Calls.{IfHeld, WasClean}
+use Rattle.ob_store.specs.Keepers.{Ghosts, KeeperValue, Ties}
 use Rattle.ob_store.specs.Replying.{Replied}
 use Rattle.ob_store.specs.declared.reply.Reply.{Reply as GivenReply}
 use Rattle.ob_csv.specs.Rows.{rows_of}
@@ -193,8 +191,8 @@ module _ {S : Type 0} (g : Ghosts S) where
       → (old.book ≡ None → new ≡ old)
       → (IsSome old.book → IfErr replied IsStoreFault)
       → (IsSome old.book → (new.book ≡ None) ↔ (replied ≡ Err (stops.Fault Store)))
-      → (HasCleanDisk (state g new.conn) → HasCleanDisk (state g old.conn))
-      → (HasCleanDisk (state g new.conn) → (b : ActState) → Ties g old b → IsSome old.book → Replied g old new b number replied)
+      → WasClean g old new
+      → IfHeld g old new (λ b. Replied g old new b number replied)
       → GoesOnFound replied closes result
       → Serves g old new (λ b. Gives g new b (got b (routes.Command number)) closes result) None closes result
   serves_found old new number (Ok given) closes result reopen unopened faults dropped clean made goes =
@@ -250,8 +248,8 @@ module _ {S : Type 0} (g : Ghosts S) where
       → IsSome old.book
       → (IsSome old.book → IfErr acted IsActStop)
       → (IsSome old.book → (new.book ≡ None) ↔ (acted ≡ Err (stops.Fault Store)))
-      → (HasCleanDisk (state g new.conn) → HasCleanDisk (state g old.conn))
-      → (HasCleanDisk (state g new.conn) → (b : ActState) → Ties g old b → IsSome old.book → Acted g old new b x acted)
+      → WasClean g old new
+      → IfHeld g old new (λ b. Acted g old new b x acted)
       → GoesOnActed acted closes result
       → Serves g old new (λ b. ActGives g new b x closes result) None closes result
   serves_acted old new x (Ok given) closes result is faults dropped clean made goes = record {
@@ -287,8 +285,8 @@ module _ {S : Type 0} (g : Ghosts S) where
   pub serves_report : (old new : KeeperValue S) (body : List ℕ) (report : ImportReport) (closes : Bool) (result : Result ReplyText Fault)
       → IsSome old.book
       → (IsSome old.book → (new.book ≡ None) ↔ IsImportStoreFault (Ok report))
-      → (HasCleanDisk (state g new.conn) → HasCleanDisk (state g old.conn))
-      → (HasCleanDisk (state g new.conn) → (b : ActState) → Ties g old b → IsSome old.book → Imported g new b (Some (rows_of body)) (Ok report))
+      → WasClean g old new
+      → IfHeld g old new (λ b. Imported g new b (Some (rows_of body)) (Ok report))
       → Makes (report_answer report.added report.again report.stopped) closes result
       → Serves g old new (λ b. RouteAnswered g new b methods.Post (Some routes.Import) body closes result) None closes result
   serves_report old new body report closes result is dropped clean made goes = record {
@@ -304,8 +302,8 @@ module _ {S : Type 0} (g : Ghosts S) where
       → IsSome old.book
       → (IsSome old.book → (new.book ≡ None) ↔ IsImportStoreFault (Err e))
       → (IsSome old.book → IfErr {T = ImportReport} (Err e) (λ f. HasCause f.fault ⊥))
-      → (HasCleanDisk (state g new.conn) → HasCleanDisk (state g old.conn))
-      → (HasCleanDisk (state g new.conn) → (b : ActState) → Ties g old b → IsSome old.book → Imported g new b (Some (rows_of body)) (Err e))
+      → WasClean g old new
+      → IfHeld g old new (λ b. Imported g new b (Some (rows_of body)) (Err e))
       → Serves g old new (λ b. RouteAnswered g new b methods.Post (Some routes.Import) body closes (Err e.fault)) None closes (Err e.fault)
   serves_stopped old new body e closes is dropped cause clean made = record {
     constant = tt;

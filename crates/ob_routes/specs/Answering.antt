@@ -1,12 +1,10 @@
 -- What an answer makes of a keeper, by cases on the reply or the fault.
 use Rattle.std.specs.Prelude.{◌≡◌, ◌↔◌, ◌⊎◌, ℕ, ⊤, Bool, List, [], Option, Some, None, IsSome, IfSome, Result, Ok, Err, IfErr, unwrap_or}
-use Rattle.sqlite_trees.specs.declared.store.Store.{Ghosts}
-use Rattle.sqlite.specs.Held.{state}
-use Rattle.sqlite.specs.State.{HasCleanDisk}
 use Rattle.ob_base.specs.declared.stop.Fault.{Fault}
 use Rattle.ob_base.specs.declared.stop.Fault.TheVariants.{OutOfMemory, Store, Reopen}
 use Rattle.ob_book.specs.Acts.{ActState, Referenced, act, answer}
-use Rattle.ob_store.specs.Keeping.{KeeperValue, KeepsBook, KeepsEitherBook, Ties}
+use Rattle.ob_store.specs.Calls.{IfHeld, WasClean}
+use Rattle.ob_store.specs.Keepers.{Ghosts, KeeperValue, Stores, StoresEither, Ties}
 use Rattle.ob_csv.specs.Rows.{Fields, rows_of}
 use Rattle.ob_import.specs.Imports.{Import, Imports, after_header}
 use Rattle.ob_import.specs.Reports.{HoldsFirst, LosesNext}
@@ -55,7 +53,7 @@ module _ {S : Type 0} (g : Ghosts S) where
   abbrev pub Gives : KeeperValue S → ActState → Answer → Bool → Result ReplyText Fault → Type 0
   Gives new b a closes (Ok text) = (text_bytes text ≡ answer_text a closes) × Ties g new b
   Gives new b a closes (Err OutOfMemory) = Ties g new b
-  Gives new b a closes (Err Store) = KeepsBook (state g new.conn) b × (new.book ≡ None)
+  Gives new b a closes (Err Store) = Stores g new b × (new.book ≡ None)
   Gives new b a closes (Err fault) = ⊥
 
   -- the answer is the book's to this command: memory may be refused before the command or after it, and after a fault of the
@@ -63,7 +61,7 @@ module _ {S : Type 0} (g : Ghosts S) where
   abbrev pub ActGives : KeeperValue S → ActState → Referenced → Bool → Result ReplyText Fault → Type 0
   ActGives new b x closes (Ok text) = (text_bytes text ≡ answer_text (outcome (answer b x)) closes) × Ties g new (act b x)
   ActGives new b x closes (Err OutOfMemory) = Ties g new b ⊎ Ties g new (act b x)
-  ActGives new b x closes (Err Store) = KeepsEitherBook (state g new.conn) b (act b x) × (new.book ≡ None)
+  ActGives new b x closes (Err Store) = StoresEither g new b (act b x) × (new.book ≡ None)
   ActGives new b x closes (Err fault) = ⊥
 
   -- what stands where memory was refused: the state before; or with the command whose reply couldn't be made; or with the first
@@ -82,9 +80,9 @@ module _ {S : Type 0} (g : Ghosts S) where
   -- first rows of an import, and perhaps the next
   abbrev pub StandsLost : KeeperValue S → ActState → Method → Option Route → List ℕ → Type 0
   StandsLost new b method None body = ⊥
-  StandsLost new b methods.Get (Some route) body = KeepsBook (state g new.conn) b × (new.book ≡ None)
+  StandsLost new b methods.Get (Some route) body = Stores g new b × (new.book ≡ None)
   StandsLost new b methods.Post (Some routes.Commands) body =
-      (x : Referenced) × SaysCommand body x × KeepsEitherBook (state g new.conn) b (act b x) × (new.book ≡ None)
+      (x : Referenced) × SaysCommand body x × StoresEither g new b (act b x) × (new.book ≡ None)
   StandsLost new b methods.Post (Some routes.Import) body = (added : ℕ) × (again : ℕ) × LosesNext g new b (body_rows body) added again
   StandsLost new b methods.Post (Some (routes.Command number)) body = ⊥
   StandsLost new b methods.Post (Some (routes.View view)) body = ⊥
@@ -108,5 +106,5 @@ module _ {S : Type 0} (g : Ghosts S) where
     pub unopened : old.book ≡ None → (new ≡ old) × Unopened plain closes result
     pub faults : IsSome old.book → IfErr result IsAnswerFault
     pub dropped : IsSome old.book → (new.book ≡ None) ↔ (result ≡ Err Store)
-    pub clean : HasCleanDisk (state g new.conn) → HasCleanDisk (state g old.conn)
-    pub answered : HasCleanDisk (state g new.conn) → (b : ActState) → Ties g old b → IsSome old.book → owed b
+    pub clean : WasClean g old new
+    pub answered : IfHeld g old new owed

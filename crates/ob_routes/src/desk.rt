@@ -1,9 +1,6 @@
 //! Answers one request.
 ghost use Rattle.std.specs.Prelude.{◌≡◌, ◌↔◌, Some, None, Err, IsSome, IfSome, IfErr};
-ghost use Rattle.sqlite.specs.Held.{state};
-ghost use Rattle.sqlite.specs.State.{HasCleanDisk};
-ghost use Rattle.ob_book.specs.Acts.{ActState};
-ghost use Rattle.ob_store.specs.Keeping.{Ties};
+ghost use Rattle.ob_store.specs.Calls.{IfHeld, WasClean};
 ghost use Rattle.ob_requests.specs.Reading.{message_of};
 ghost use Rattle.ob_routes.specs.Answers.{bookless, bookless_at, got};
 ghost use Rattle.ob_routes.specs.Answering.{Answered, Gives, IsAnswerFault, IsReplyOf, RouteAnswered, Serves, Unopened};
@@ -15,9 +12,8 @@ use crate::show::{show_command, show_view};
 use ob_base::Fault;
 use ob_replies::{Allow, Status};
 use ob_requests::{Method, Request};
-use ob_store::Keeper;
+use ob_store::{Alter, Keeper};
 use ob_sweep::Timeline;
-use sqlite::Alter;
 use std::alloc::Global;
 
 /// Answers a request from a keeper's book: applies it if it is a POST, and returns the bytes of the
@@ -43,11 +39,9 @@ pub fn answer<S: Alter, T: Timeline>(
     ensures faults { IsSome keeper.old.book → IfErr result IsAnswerFault }
     ensures dropped { IsSome keeper.old.book → (keeper.new.book ≡ None)
         ↔ (result ≡ Err Fault.Store) }
-    ensures clean { HasCleanDisk (state S.Store keeper.new.conn)
-        → HasCleanDisk (state S.Store keeper.old.conn) }
-    ensures answered { HasCleanDisk (state S.Store keeper.new.conn) → (b : ActState)
-        → Ties S.Store keeper.old b → IsSome keeper.old.book
-        → Answered S.Store keeper.new b (message_of request.now) closes result }
+    ensures clean { WasClean S.Store keeper.old keeper.new }
+    ensures answered { IfHeld S.Store keeper.old keeper.new
+        (λ b. Answered S.Store keeper.new b (message_of request.now) closes result) }
 {
     let route = routes.route_of(request.path());
     answer_route(alloc, keeper, request.method, route, &request.body, closes)

@@ -10,9 +10,8 @@ use ob_base::{Fault, Ref, Stop};
 use ob_book::Command;
 use ob_import::import_text;
 use ob_replies::read_command;
-use ob_store::Keeper;
+use ob_store::{Alter, Keeper};
 use ob_sweep::Timeline;
-use sqlite::Alter;
 use std::alloc::Global;
 
 /// Applies a command under a reference, and replies to it.

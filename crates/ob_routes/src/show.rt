@@ -11,9 +11,8 @@ use ob_base::{Fault, Name, Stop};
 use ob_book::Book;
 use ob_replies::{MediaType, Status, entry_text};
 use ob_sheet::Entry;
-use ob_store::Keeper;
+use ob_store::{Alter, Keeper};
 use ob_sweep::Timeline;
-use sqlite::Alter;
 use std::alloc::Global;
 
 /// Returns the entry of a number and the name of its device; None if there is no such entry.

@@ -1,5 +1,5 @@
 -- What a migration leaves of what the store kept.
-use Rattle.std.proofs.Common.{◌≡◌, ◌≢◌, inl, inr, Bool, true, false, true≢false, Result, Ok, Err, IsTrue, sym, subst}
+use Rattle.std.proofs.Common.{◌≡◌, ◌≢◌, inl, inr, Bool, false, true≢false, Result, Ok, Err, IsTrue, sym, subst}
 use Rattle.std.specs.Prelude.{IfOk, IfErr}
 use Rattle.sqlite_trees.specs.declared.store.Store.{Ghosts}
 use Rattle.sqlite.specs.Held.{Held, state}

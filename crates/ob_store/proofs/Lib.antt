@@ -28,3 +28,5 @@ pub mod OldBooks
 pub mod Upgrading
 pub mod GoingOn
 pub mod OldCrashing
+pub mod KeeperLaws
+pub mod Restarting

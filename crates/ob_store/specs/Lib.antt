@@ -15,3 +15,5 @@ pub mod Upgrading
 pub mod Leading
 pub mod Differing
 pub mod MovingOut
+pub mod Keepers
+pub mod Calls

@@ -26,3 +26,4 @@ pub use keeper::Keeper;
 pub use moving::MoveSink;
 pub use ob_compare::{Progress, Silent, Work};
 pub use reply::{Moves, Reply};
+pub use sqlite::Alter;

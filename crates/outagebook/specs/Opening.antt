@@ -3,7 +3,7 @@ use Rattle.std.specs.Prelude.{◌≡◌, ◌⊎◌, None, Result, Ok, Err}
 use Rattle.ob_base.specs.declared.stop.Stop.{Stop}
 use Rattle.ob_base.specs.declared.stop.Stop.TheVariants.{Fault}
 use Rattle.ob_base.specs.declared.stop.Fault.TheVariants.{OutOfMemory, Store}
-use Rattle.ob_store.specs.Keeping.{KeeperValue}
+use Rattle.ob_store.specs.Keepers.{KeeperValue}
 
 -- a keeper that has no book yet; or memory was refused, or the file isn't there or can't be opened
 abbrev pub OpensFile : {S : Type 0} → Result (KeeperValue S) Stop → Type 0

@@ -1,35 +1,28 @@
 -- What the program's server makes of a book.
-use Rattle.std.specs.Prelude.{◌≡◌, ◌⊎◌, ⊤, ℕ, Result, Ok, Err, IfErr}
-use Rattle.sqlite_trees.specs.declared.store.Store.{Ghosts}
+use Rattle.std.specs.Prelude.{◌≡◌, ⊤, ℕ, List, Option, None, Result, Ok, Err}
 use Rattle.ob_base.specs.declared.stop.Stop.{Stop}
 use Rattle.ob_base.specs.declared.stop.Stop.TheVariants.{Fault}
 use Rattle.ob_base.specs.declared.stop.Fault.{Fault as AFault}
-use Rattle.ob_base.specs.declared.stop.Fault.TheVariants.{Input, Output}
-use Rattle.ob_store.specs.Keeping.{KeeperValue}
+use Rattle.ob_store.specs.Keepers.{Ghosts, KeeperValue}
 use Rattle.ob_desk.specs.Listening.{LeavesKeeper, ServesStreams, most_streams, unserved_fault}
 use Rattle.ob_desk.specs.declared.listen.Unserved.{Unserved}
+use Rattle.outagebook.specs.Ending.{TriesToTell, stop_line}
 use Rattle.outagebook.specs.declared.desk.Complaints.{Complaints}
 
--- a fault was told outside, where no clause sees it
-abbrev pub told_outside : {A : Type 0} → A → AFault → A → Type 0
-told_outside old fault new = ⊤
-
--- a port was taken and told; or it could not be taken, or not be told
-abbrev pub IsPortTaken : {I : Type 0} → Result I Stop → Type 0
-IsPortTaken result = IfErr result (λ stop. (stop ≡ Fault Input) ⊎ (stop ≡ Fault Output))
+-- the line of a fault was printed, as far as there is memory for it and the writer takes it
+abbrev pub TellsFault : {E : Type 0} → (E → Option (List ℕ)) → Complaints E → AFault → Complaints E → Type 0
+TellsFault contents old fault new = TriesToTell contents old.err new.err (stop_line (Fault fault) None)
 
 -- how a desk's end stops the job
 abbrev pub stop_of_end : Result ⊤ Unserved → Result ⊤ Stop
 stop_of_end (Ok done) = Ok tt
 stop_of_end (Err end) = Err (Fault (unserved_fault end))
 
-module _ {S : Type 0} (g : Ghosts S) where
-  -- a desk served so many streams, or fewer where it ended before, and left the keeper so
-  pub record ServesDesk (streams : ℕ) (old new : KeeperValue S) (result : Result ⊤ Stop) : Type 0 where
+module _ {S L : Type 0} (g : Ghosts S) (tells : L → AFault → L → Type 0) where
+  -- a desk served so many streams, or fewer where it ended before, gave the faults of streams to its log, and left the keeper so
+  pub record ServesDesk (streams : ℕ) (old new : KeeperValue S) (before after : L) (result : Result ⊤ Stop) : Type 0 where
     pub end : Result ⊤ Unserved
     pub stopped : result ≡ stop_of_end end
     pub left : ℕ
-    pub before : Complaints
-    pub after : Complaints
-    pub served : ServesStreams g told_outside old new before after (most_streams streams) left end
+    pub served : ServesStreams g tells old new before after (most_streams streams) left end
     pub keeper : LeavesKeeper g old new end

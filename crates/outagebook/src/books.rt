@@ -6,33 +6,33 @@ ghost use Rattle.ob_jobs.specs.Tasks.{RunsTask};
 ghost use Rattle.outagebook.specs.Opening.{OpensFile};
 
 use crate::desk::Server;
+use crate::period::begin;
+use crate::port::Sockets;
 use crate::progress::Telling;
+use crate::task::FileTask;
 use ob_base::{Fault, Stop};
 use ob_cli::{Unfinished, Word};
-use ob_jobs::{OpenInput, OpenOutput, ServeBook, Task, run_task};
+use ob_jobs::{OpenInput, OpenOutput, ServeBook, run_task};
 use ob_store::Keeper;
 use ob_stream::Watched;
 use ob_sweep::{Timeline, Windowed};
-use ob_time::Period;
 use sqlite::{Alter, Connection, Error, ErrorCode, FileFrom, FileStore, Unknown};
 use std::fs::File;
-use std::io::{self, Read, Write};
+use std::io::{self, Read, Stderr, Write};
 
 /// The keeper of a book in a file.
 type FileKeeper = Keeper<FileStore<FileFrom<Unknown>>, Windowed>;
 
-/// A job on the book in a file.
-pub(crate) type FileTask<'w> = Task<'w, InputFile<'w>, OutputFile<'w>, Server<'w>>;
-
-/// Opens the file of a book and does a job on it. If there is no file, only the job that creates a
+/// Opens the file of a book and does a task on it. If there is no file, only the task that creates a
 /// book creates one.
 pub(crate) fn run_on_book(
     rt: &HostRuntime,
     book: &Word,
     task: FileTask<'_>,
 ) -> Result<(), Unfinished> {
-    if !task.makes_book() && !is_there(rt, book) {
-        return Err(Unfinished::from(Stop::Fault(Fault::Store)));
+    let may_open = task.makes_book() || is_there(rt, book);
+    if let Err(stop) = begin(rt.alloc(), &task, may_open) {
+        return Err(Unfinished::from(stop));
     }
     let may_write = task.may_write();
     let mut keeper = match keeper_of(rt, book) {
@@ -47,7 +47,7 @@ pub(crate) fn run_on_book(
     run
 }
 
-/// Does a job on a keeper and writes its text to a writer.
+/// Does a task on a keeper and writes its text to a writer.
 fn run_over<S: Alter, T: Timeline, W: Write>(
     rt: &HostRuntime,
     keeper: &mut Keeper<S, T>,
@@ -56,9 +56,9 @@ fn run_over<S: Alter, T: Timeline, W: Write>(
 ) -> Result<(), Unfinished>
     ensures { RunsTask S.Store ⟦<InputFile<'static> as OpenInput>⟧.opens ⟦<File as Read>⟧.remaining
         ⟦<OutputFile<'static> as OpenOutput>⟧.opens ⟦<File as Write>⟧.contents
-        ⟦<Server<'static> as ServeBook<S, T>>⟧.takes
-        ⟦<Server<'static> as ServeBook<S, T>>⟧.serves W.contents task.entry keeper.old keeper.new
-        writer.old writer.new result }
+        ⟦<Server<'static, Sockets<'static>, Stderr> as ServeBook<S, T>>⟧.takes
+        ⟦<Server<'static, Sockets<'static>, Stderr> as ServeBook<S, T>>⟧.serves W.contents task.entry
+        keeper.old keeper.new writer.old writer.new result }
 {
     let mut telling = Telling::new(rt);
     run_task(rt.alloc(), keeper, task, &mut telling, writer)
@@ -67,6 +67,12 @@ fn run_over<S: Alter, T: Timeline, W: Write>(
 /// Whether there is such a file and it can be read. The store would create a missing one.
 fn is_there(rt: &HostRuntime, book: &Word) -> bool {
     File::open(rt, book.as_str()).is_ok()
+}
+
+/// Copies what was committed from the log next to the file into the file. If that fails, it stays
+/// in the log.
+fn fold(keeper: FileKeeper) {
+    let _ = keeper.into_connection().close();
 }
 
 /// Opens the file of a book, or creates it if there is none.
@@ -80,24 +86,6 @@ fn keeper_of(rt: &HostRuntime, book: &Word) -> Result<FileKeeper, Stop>
         }
         Err(_) => Err(Stop::Fault(Fault::Store)),
     }
-}
-
-/// Copies what was committed from the log next to the file into the file. If that fails, it stays
-/// in the log.
-fn fold(keeper: FileKeeper) {
-    let _ = keeper.into_connection().close();
-}
-
-/// Refuses an impossible period, so that no file is created for it.
-pub(crate) fn look_at_period(
-    rt: &HostRuntime,
-    first: &Word,
-    days: u16,
-    zone: &Word,
-) -> Result<(), Stop> {
-    let (first, zone) = (first.as_str().as_bytes(), zone.as_str().as_bytes());
-    Period::from_text(rt.alloc(), first, days, zone)?;
-    Ok(())
 }
 
 /// The input of an import, by its path.

@@ -1,61 +1,89 @@
 //! The job that serves a book over HTTP.
 ghost use Rattle.std.specs.Prelude.{◌≡◌};
-ghost use Rattle.outagebook.specs.Serving.{IsPortTaken, stop_of_end};
+ghost use Rattle.outagebook.specs.Serving.{stop_of_end};
 
-use crate::tell_stop;
+use crate::ending::tell_stop;
+use crate::port::{Bind, Sockets, take_port};
 use ob_base::{Fault, Stop};
 use ob_desk::{FaultLog, Listener, Unserved, run_serve};
 use ob_jobs::ServeBook;
-use ob_store::Keeper;
+use ob_store::{Alter, Keeper};
+use ob_stream::Watched;
 use ob_sweep::Timeline;
-use sqlite::Alter;
-use std::net::{Ipv4Addr, TcpListener};
+use std::alloc::Global;
+use std::io::{Stderr, Write};
+use std::net::TcpListener;
 
-/// Prints on standard error the faults that ended streams.
+/// Prints the faults that ended streams.
 #[derive(Drop)]
-struct Complaints<'r> {
-    rt: &'r HostRuntime,
+pub(crate) struct Complaints<E> {
+    alloc: Global,
+    err: Watched<E>,
 }
 
-impl FaultLog for Complaints<'_> {
-    ghost use Rattle.outagebook.specs.Serving.{told_outside};
+impl<E: Write> FaultLog for Complaints<E> {
+    ghost use Rattle.outagebook.specs.Serving.{TellsFault};
 
-    ghost tells = { told_outside };
+    ghost tells = { TellsFault E.contents };
 
     fn tell(&mut self, fault: Fault) {
-        tell_stop(self.rt, &Stop::Fault(fault), None);
+        tell_stop(self.alloc, &Stop::Fault(fault), None, &mut self.err);
     }
 }
 
 /// Serves a book over HTTP at a port of 127.0.0.1, a given number of streams one after another, and
 /// prints the port. If the given port is 0, it takes a free one.
 #[derive(Drop)]
-pub(crate) struct Server<'r> {
-    pub(crate) rt: &'r HostRuntime,
-    pub(crate) port: u16,
-    pub(crate) streams: u64,
+pub(crate) struct Server<'r, B, E> {
+    rt: &'r HostRuntime,
+    sockets: B,
+    port: u16,
+    streams: u64,
+    log: Complaints<E>,
 }
 
-impl<S: Alter, T: Timeline> ServeBook<S, T> for Server<'_> {
+/// The server over the system's sockets, which prints faults on standard error.
+pub(crate) type SocketServer<'r> = Server<'r, Sockets<'r>, Stderr>;
+
+impl SocketServer<'_> {
+    /// The server of so many streams at a port.
+    pub(crate) fn new(rt: &HostRuntime, port: u16, streams: u64) -> SocketServer<'_>
+        ensures port { result.port ≡ port }
+        ensures streams { result.streams ≡ streams }
+    {
+        Server {
+            rt,
+            sockets: Sockets { rt },
+            port,
+            streams,
+            log: Complaints {
+                alloc: rt.alloc(),
+                err: Watched::new(rt.stderr()),
+            },
+        }
+    }
+}
+
+impl<B: Bind, E: Write, S: Alter, T: Timeline> ServeBook<S, T> for Server<'_, B, E> {
     ghost use Rattle.std.specs.Prelude.{◌≡◌};
-    ghost use Rattle.outagebook.specs.Serving.{IsPortTaken, ServesDesk};
+    ghost use Rattle.outagebook.specs.Ports.{TakesPort};
+    ghost use Rattle.outagebook.specs.Serving.{ServesDesk, TellsFault};
 
     type Port = TcpListener;
 
-    ghost takes = { λ old result new. (new ≡ old) × IsPortTaken result };
+    ghost takes = { λ old result new. (new ≡ record old { sockets = new.sockets })
+        × TakesPort B.binds old.sockets old.port result new.sockets };
 
-    ghost serves = { λ old _ keeper result left new. (new ≡ old)
-        × ServesDesk S.Store old.streams keeper left result };
+    ghost serves = { λ old _ keeper result left new. (new ≡ record old { log = new.log })
+        × ServesDesk S.Store (TellsFault E.contents) old.streams keeper left old.log new.log result };
 
     fn take(&mut self) -> Result<TcpListener, Stop> {
-        listen(self.rt, self.port)
+        take_port(self.rt, &mut self.sockets, self.port)
     }
 
     fn serve(&mut self, port: TcpListener, keeper: &mut Keeper<S, T>) -> Result<(), Stop> {
-        let rt = self.rt;
         let mut listener = Listener::new(&port, self.streams);
-        let mut log = Complaints { rt };
-        stop_of(run_serve(rt.alloc(), &mut listener, keeper, &mut log))
+        stop_of(run_serve(self.log.alloc, &mut listener, keeper, &mut self.log))
     }
 }
 
@@ -66,22 +94,5 @@ fn stop_of(end: Result<(), Unserved>) -> Result<(), Stop>
     match end {
         Ok(()) => Ok(()),
         Err(end) => Err(Stop::Fault(end.fault())),
-    }
-}
-
-/// Binds a port on 127.0.0.1, which only this machine reaches, and prints it.
-fn listen(rt: &HostRuntime, port: u16) -> Result<TcpListener, Stop>
-    ensures { IsPortTaken result }
-{
-    let Ok(listener) = TcpListener::bind(rt, (Ipv4Addr::LOCALHOST, port)) else {
-        return Err(Stop::Fault(Fault::Input));
-    };
-    let Ok(address) = listener.local_addr() else {
-        return Err(Stop::Fault(Fault::Input));
-    };
-    let bound = address.port();
-    match println!(rt; "listening 127.0.0.1:{bound}") {
-        Ok(()) => Ok(listener),
-        Err(_) => Err(Stop::Fault(Fault::Output)),
     }
 }

@@ -1,10 +1,6 @@
 -- The streams so far have left the book to further commands.
 use Rattle.std.proofs.Common.{◌≡◌, None, false}
-use Rattle.std.specs.Prelude.{IsSome}
-use Rattle.sqlite.specs.Held.{state}
-use Rattle.sqlite.specs.State.{HasCleanDisk}
-use Rattle.ob_book.specs.Acts.{ActState}
-use Rattle.ob_store.specs.Keeping.{Ties}
+use Rattle.ob_store.specs.Calls.{IfHeld}
 use Rattle.ob_desk.specs.Crashes.{IsLeft}
 use Rattle.ob_desk.specs.Listening.{has_failed, streams_left}
 use Rattle.ob_desk.specs.Standing.{IsKept}
@@ -14,7 +10,7 @@ use Rattle.ob_desk.proofs.listen.run_serve.Given as goal
 abbrev pub invariant-serving : goal.invariant-serving
 invariant-serving g l = record {
   kept : IsKept g.S.Store l.fn.keeper l.keeper None;
-  left : HasCleanDisk (state g.S.Store l.keeper.conn) → (b : ActState) → Ties g.S.Store l.fn.keeper b → IsSome l.fn.keeper.book → IsLeft g.S.Store l.keeper b None;
+  left : IfHeld g.S.Store l.fn.keeper l.keeper (λ b. IsLeft g.S.Store l.keeper b None);
   served : SoFar g.S.Store g.L.FaultLog.tells l.fn.keeper l.keeper l.fn.log l.log (streams_left l.fn.listener) (streams_left l.listener);
   well : has_failed l.fn.listener ≡ false → has_failed l.listener ≡ false;
 }

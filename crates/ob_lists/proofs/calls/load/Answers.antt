@@ -1,5 +1,4 @@
-use Rattle.sqlite.specs.Held.{state}
-use Rattle.ob_commit.proofs.Commits.{numbers_survive}
+use Rattle.ob_store.proofs.KeeperLaws.{numbers_stay}
 use Rattle.ob_lists.specs.Standing.{MayBe}
 use Rattle.ob_lists.proofs.Standings.{load_stands, loads_one}
 use Rattle.ob_lists.proofs.calls.load.Goals as goal
@@ -15,4 +14,4 @@ returns-clause-goes g c = record {
 }
 
 pub returns-clause-numbered : goal.returns-clause-numbered
-returns-clause-numbered g c = numbers_survive (state g.S.Store c.args.keeper.now.conn) (state g.S.Store c.load.new.self.conn) c.load.ensures.survives
+returns-clause-numbered g c = numbers_stay g.S.Store c.args.keeper.now c.load.new.self c.load.ensures.survives

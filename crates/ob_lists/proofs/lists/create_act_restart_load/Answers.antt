@@ -1,5 +1,6 @@
 use Rattle.std.proofs.Common.{[], ◌++◌}
 use Rattle.ob_store.specs.Acting.{under}
+use Rattle.ob_store.proofs.Restarting.{numbers_after}
 use Rattle.ob_lists.specs.Standing.{told_by}
 use Rattle.ob_lists.proofs.Numbering.{begun_numbered}
 use Rattle.ob_lists.proofs.lists.create_act_restart_load.Goals as goal
@@ -16,5 +17,5 @@ returns g c =
     c.create-made.ensures.created c.create-made.ensures.numbered
     (λ b stands numbers. (
       c.load.ensures.goes.stands clean b (told ++ []) (goes.stands opened b (told ++ []) (c.act-sent.ensures.goes.stands (goes.clean opened) b [] stands)),
-      c.load.ensures.numbered ((c.crash_law.ensures sent.conn next.result next.ensures.opens).2 (c.act-sent.ensures.numbered b [] stands numbers)),
+      c.load.ensures.numbered (numbers_after g.S.Store g.R.Store sent next.result next.ensures.opens c.crash_law.ensures (c.act-sent.ensures.numbered b [] stands numbers)),
     ))

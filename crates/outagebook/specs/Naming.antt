@@ -1,0 +1,30 @@
+-- The task that a job names.
+use Rattle.std.specs.Prelude.{◌≡◌, ⊤, ℕ, List, Option, Some, None}
+use Rattle.ob_cli.specs.declared.job.Job.{Job}
+use Rattle.ob_cli.specs.declared.job.Job.TheVariants as jobs
+use Rattle.ob_jobs.specs.declared.tasks.Task.{Task}
+use Rattle.ob_jobs.specs.declared.tasks.Task.TheVariants as tasks
+use Rattle.outagebook.specs.declared.books.InputFile.{InputFile}
+use Rattle.outagebook.specs.declared.books.OutputFile.{OutputFile}
+use Rattle.outagebook.specs.declared.desk.Server.{Server}
+use Rattle.outagebook.specs.declared.task.BookTask.{BookTask}
+
+module _ {B E : Type 0} where
+  -- the task of a job's name is done on the book that the job names, with the values of its options, and no other
+  abbrev pub DoesJob : Job → List ℕ → Task InputFile OutputFile (Server B E) → Type 0
+  DoesJob (jobs.Init book first days zone) on (tasks.Init start count rule) =
+      (on ≡ book) × (start.now ≡ first) × (count ≡ days) × (rule.now ≡ zone)
+  DoesJob (jobs.Import book input) on (tasks.Import file) = (on ≡ book) × (file.path.now ≡ input)
+  DoesJob (jobs.Export book output) on (tasks.Export file) = (on ≡ book) × (file.path.now ≡ output)
+  DoesJob (jobs.Table book) on tasks.Table = on ≡ book
+  DoesJob (jobs.Audit book) on tasks.Audit = on ≡ book
+  DoesJob (jobs.Migrate book) on tasks.Migrate = on ≡ book
+  DoesJob (jobs.Serve book port streams) on (tasks.Serve server) = (on ≡ book) × (server.port ≡ port) × (server.streams ≡ streams)
+  DoesJob job on task = ⊥
+
+-- the task of a job and its book; the total has none
+abbrev pub IsTaskOf : Job → Option BookTask → Type 0
+IsTaskOf jobs.Total None = ⊤
+IsTaskOf jobs.Total (Some found) = ⊥
+IsTaskOf job None = ⊥
+IsTaskOf job (Some found) = DoesJob job found.book.now found.task
