@@ -25,6 +25,7 @@ from state import Entry, Period, State
 
 Field = int | str | None  # of a row of a table
 Amounts = dict[tuple[int, int], int]  # by dimension and key
+Move = tuple[int, int, int]  # dimension, key, change of the amount
 
 VERSION = 2  # of the tables
 LONGEST_MOMENTARY = 300
@@ -65,10 +66,7 @@ class Book(State):
         self.commands.append((ref, body))
         number = self.number_of[ref] = len(self.commands)
         after = self.amounts() if self.keeps_moves else {}
-        for dimension, key in sorted(before.keys() | after.keys()):
-            delta = after.get((dimension, key), 0) - before.get((dimension, key), 0)
-            if delta:
-                self.moves.append((number, dimension, key, delta))
+        self.moves += [(number, *move) for move in moves_between(before, after)]
         return number
 
     def supplied(self, positions: dict[str, str], second: int) -> Set[str]:
@@ -127,6 +125,10 @@ class Book(State):
             runs.setdefault(run.section, []).append(run)
         return runs
 
+    def cause_of(self, run: Run) -> int:
+        """The cause that the entry has now that cut the section off; 0 where none did."""
+        return self.entries[run.cutter - 1].cause if run.cutter else 0
+
     def interruptions(self) -> Iterator[list[tuple[Run, int, int]]]:
         """The interruptions of each customer, as lists of runs with their parts that fall into its service."""
         runs = self.runs_by_section()
@@ -144,8 +146,7 @@ class Book(State):
         amounts: Amounts = {}
         for found in self.interruptions():
             for run, begin, end in found:
-                cause = self.entries[run.cutter - 1].cause if run.cutter else 0
-                add(amounts, (1, cause), end - begin)
+                add(amounts, (1, self.cause_of(run)), end - begin)
                 add(amounts, (2, self.feeders[run.section] or 0), end - begin)
                 for day, seconds in self.period.parts(begin, end):
                     add(amounts, (3, day), seconds)
@@ -260,6 +261,12 @@ class Book(State):
 
 def add(amounts: Amounts, key: tuple[int, int], amount: int) -> None:
     amounts[key] = amounts.get(key, 0) + amount
+
+
+def moves_between(before: Amounts, after: Amounts) -> list[Move]:
+    """What leads from amounts to others, by dimension and key; none is 0."""
+    changes = [(*key, after.get(key, 0) - before.get(key, 0)) for key in sorted(before.keys() | after.keys())]
+    return [change for change in changes if change[2]]
 
 
 def total_of(amounts: Amounts, dimension: int) -> int:

@@ -6,7 +6,8 @@ from dataclasses import dataclass
 from fractions import Fraction
 
 from commands import HEADER, NAMES, Refusal, RowRefusal
-from model import DIMENSIONS, Book, quotient_text
+from model import DIMENSIONS, Book, Move, quotient_text
+from plans import plan_of
 from state import Imported
 
 CONFLICTS = (3, 7, 8, 11, 13, 14)  # the refusals that the book as it is now is the reason of
@@ -56,6 +57,8 @@ def answer_of(book: Book, request: Request) -> Answer:
     """What a book answers to a request of these modules, and what it does."""
     if request.target == "/commands":
         return command_answer(book, request.body)
+    if request.target == "/plan":
+        return plan_answer(book, request.body)
     if request.target == "/import":
         return import_answer(book.import_text(request.body))
     if request.target == "/table":
@@ -107,8 +110,11 @@ def accepted_text(book: Book, number: int) -> str | None:
     """The reply to an accepted command as JSON."""
     if not 1 <= number <= book.accepted():
         return None
-    moves = [move[1:] for move in book.moves if move[0] == number]
-    return text_of_json({"moved": [[DIMENSIONS[d - 1], key, delta] for d, key, delta in moves], "no": number})
+    return text_of_json({"moved": moved_rows([move[1:] for move in book.moves if move[0] == number]), "no": number})
+
+
+def moved_rows(moves: Sequence[Move]) -> list[list[object]]:
+    return [[DIMENSIONS[dimension - 1], key, delta] for dimension, key, delta in moves]
 
 
 def refused_members(refusal: Refusal) -> dict[str, object]:
@@ -117,14 +123,33 @@ def refused_members(refusal: Refusal) -> dict[str, object]:
     return members if refusal.detail is None else members | {"detail": refusal.detail}
 
 
+def row_of(body: bytes) -> list[str]:
+    """The row of a body: the texts of its members."""
+    members: dict[str, str] = json.loads(body)
+    return [members.get(name, "") for name in HEADER]
+
+
+def refused_answer(refusal: Refusal) -> Answer:
+    return 409 if refusal.number in CONFLICTS else 422, "application/json", text_of_json(refused_members(refusal))
+
+
+def plan_answer(book: Book, body: bytes) -> Answer:
+    """The answer to a command that is only planned."""
+    try:
+        plan = plan_of(book, row_of(body))
+    except Refusal as refusal:
+        return refused_answer(refusal)
+    sections = [{"section": c.section, "before": c.before, "after": c.after} for c in plan.sections]
+    return 200, "application/json", text_of_json({"moved": moved_rows(plan.moved), "sections": sections})
+
+
 def command_answer(book: Book, body: bytes) -> Answer:
     """The answer to a command, whose first reply is that to the same one again."""
-    members: dict[str, str] = json.loads(body)
-    row = [members.get(name, "") for name in HEADER]
+    row = row_of(body)
     try:
         number = book.act(row)
     except Refusal as refusal:
-        return 409 if refusal.number in CONFLICTS else 422, "application/json", text_of_json(refused_members(refusal))
+        return refused_answer(refusal)
     text = accepted_text(book, number or book.number_of[row[1]])
     assert text is not None
     return 200, "application/json", text

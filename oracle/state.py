@@ -132,9 +132,13 @@ class State(ABC):
             number, known_body = known
             refuse_if(body != known_body, 11, number)
             return None
+        self.check(kind, values)
+        return self.accept(ref, kind, values, body)
+
+    def check(self, kind: str, values: list[Value]) -> None:
+        """Raises what a command under a new reference is refused for."""
         getattr(self, f"check_{kind}")(*values)
         refuse_if(self.accepted() == MOST_COMMANDS, 12, MOST_COMMANDS)
-        return self.accept(ref, kind, values, body)
 
     def say(self, kind: str, values: list[Value]) -> None:
         """What an accepted command changes."""

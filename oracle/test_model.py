@@ -20,7 +20,9 @@ from commands import KINDS, NAMES, Refusal, RowRefusal, read_date, read_row, rea
 from compare import FEEDER, FEEDER_YEAR
 from compare_old import OLD_FILES, book_of_file, was_old
 from make_commands import calls_of, old_text_of, period_of
-from model import Book, quotient, quotient_text
+from model import Book, Move, quotient, quotient_text
+from plans import SectionChange, intervals_of, plan_of
+from served import Request, answer_of
 from state import Period, midnight_of
 
 T = 1_704_067_200  # 2024-01-01T00:00:00Z
@@ -323,6 +325,123 @@ class Outages(unittest.TestCase):
         self.assertEqual(book.tables()["meta"], [(1, 2, "2024-01-01", 1, "UTC0")])
 
 
+class Plans(unittest.TestCase):
+    """Plans worked out by hand: the sections whose outage intervals differ, with all of them before and after."""
+
+    def check(self, book: Book, line: str, moved: list[Move], *sections: SectionChange) -> None:
+        plan = plan_of(book, row_of(line, ""))
+        self.assertEqual((plan.moved, plan.sections), (moved, [*sections]))
+
+    def test_opening(self) -> None:
+        """It cuts two sections off up to the period's end."""
+        after = [(T + 3_600, T + 86_400, 1, 3)]
+        sections = [SectionChange("S1", [], after), SectionChange("S2", [], after)]
+        self.check(base(), "switch B1 open +3600 3 K1", everywhere(414_000), *sections)
+
+    def test_sections_without_customers(self) -> None:
+        """Nothing is moved, and the sections are shown all the same."""
+        after = [(T + 3_600, T + 86_400, 1, 3)]
+        sections = [SectionChange("S1", [], after), SectionChange("S2", [], after)]
+        self.check(base(lines=NETWORK), "switch B1 open +3600 3 K1", [], *sections)
+
+    def test_late_entry(self) -> None:
+        """The interval of S2 begins earlier, with another entry and its cause; S1 keeps its own."""
+        book = base()
+        act(book, TIE_RESTORES)
+        before, after = [(T + 3_600, T + 4_200, 1, 3)], [(T + 3_000, T + 4_200, 5, 4)]
+        moved = [(1, 3, -1_800), (1, 4, 3_600), (2, 1, 1_800), (3, 0, 1_800)]
+        self.check(book, "switch W1 open +3000 4 K1", moved, SectionChange("S2", before, after))
+
+    def test_other_cause(self) -> None:
+        """The intervals keep their seconds and their entry: their cause differs."""
+        book = base()
+        act(book, TIE_RESTORES)
+        one, two = (T + 3_600, T + 7_200, 1), (T + 3_600, T + 4_200, 1)
+        sections = [SectionChange("S1", [(*one, 3)], [(*one, 4)]), SectionChange("S2", [(*two, 3)], [(*two, 4)])]
+        self.check(book, "correct 1 1 open +3600 4 K1", [(1, 3, -9_000), (1, 4, 9_000)], *sections)
+        self.check(book, "correct 1 1 open +3600 3 K2", [])
+
+    def test_withdrawal_and_life(self) -> None:
+        book = base()
+        act(book, TIE_RESTORES)
+        short, later = (T + 3_600, T + 4_200, 1, 3), (T + 6_000, T + 86_400, None, 0)
+        long = [(T + 3_600, T + 86_400, 1, 3)]
+        self.check(book, "withdraw 3 1", everywhere(246_600), SectionChange("S2", [short], long))
+        self.check(book, "life T1 0 +6000", everywhere(241_200, 0), SectionChange("S2", [short], [short, later]))
+
+    def test_new_section(self) -> None:
+        """It isn't there yet: no interval before, and no entry begins the one after."""
+        self.check(base(), "section S9 9", [], SectionChange("S9", [], [(T, T + 86_400, None, 0)]))
+
+    def test_no_section_changes(self) -> None:
+        book = base()
+        act(book, TIE_RESTORES)
+        for line in ["bus BUS-B", "cause 5 WIND", "mark 2024-01-01 ENG", "switch B1 close +7300 3 K1"]:
+            self.check(book, line, [])
+        self.check(book, "connect 11 S1 +5400", everywhere(1_800))
+        self.check(book, "revise 1 +0 +5400", everywhere(-1_800))
+
+    def test_nothing_is_kept(self) -> None:
+        book = base()
+        act(book, TIE_RESTORES)
+        before = (book.tables(), [*book.table_lines()])
+        self.assertEqual(plan_of(book, row_of("withdraw 3 1", "")), plan_of(book, row_of("withdraw 3 1", "")))
+        self.assertEqual((book.tables(), [*book.table_lines()]), before)
+
+    def test_refusals(self) -> None:
+        """Those of the command; a reference is read and not looked up."""
+        book = base()
+        act(book, TIE_RESTORES)
+        for line, number, detail in [
+            ("withdraw 9 1", 6, None),
+            ("withdraw 3 2", 7, 1),
+            ("switch B1 open +0 9 K1", 15, None),
+        ]:
+            with self.assertRaises(Refusal) as raised:
+                plan_of(book, row_of(line, ""))
+            self.assertEqual((raised.exception.number, raised.exception.detail), (number, detail))
+        self.assertEqual(plan_of(book, row_of("bus BUS-B", "N1")).moved, [])
+        with self.assertRaises(Refusal) as raised:
+            plan_of(book, row_of("bus BUS-B", "no reference"))
+        self.assertEqual((raised.exception.number, raised.exception.detail), (1, 2))
+
+    def test_random_plans_are_acted(self) -> None:
+        """What a plan moves is what the command moves, its refusal the command's, and its intervals those that follow."""
+        for seed in range(1, 6):
+            book = Book(Period(*period_of(seed)))
+            for row in calls_of(seed):
+                self.plan_and_act(book, row)
+
+    def plan_and_act(self, book: Book, row: list[str]) -> None:
+        if row[1] in book.number_of:
+            return
+        try:
+            plan = plan_of(book, row)
+        except Refusal as refusal:
+            with self.assertRaises(Refusal) as raised:
+                book.act(row)
+            self.assertEqual(str(raised.exception), str(refusal))
+            return
+        before = intervals_of(book)
+        number = book.act(row)
+        self.assertEqual(plan.moved, [move[1:] for move in book.moves if move[0] == number])
+        changed = {change.section: change for change in plan.sections}
+        for section in book.feeders:
+            lists = before.get(section, []), intervals_of(book).get(section, [])
+            self.assertEqual(lists[0] != lists[1], section in changed)
+            if section in changed:
+                self.assertEqual(lists, (changed[section].before, changed[section].after))
+
+    def test_text(self) -> None:
+        book = base()
+        act(book, TIE_RESTORES)
+        body = b'{"kind":"withdraw","f1":"3","f2":"1"}'
+        self.assertEqual(answer_of(book, Request("POST", "/plan", body)), (200, "application/json", PLAN))
+        refused = '{"detail":1,"name":"Stale","refused":7}'
+        body = b'{"kind":"withdraw","f1":"3","f2":"2"}'
+        self.assertEqual(answer_of(book, Request("POST", "/plan", body)), (409, "application/json", refused))
+
+
 class Imports(unittest.TestCase):
     def check(self, text: str, added: int, again: int, refusal: RowRefusal | None, book: Book | None = None) -> Book:
         book = book or Book(Period("2024-01-01", 1, "UTC0"))
@@ -542,6 +661,10 @@ CAIFI     all      1/1 1.000
 ASAI      all      95/96 0.990
 """
 TOTALS = '{"cause":[[3,9000]],"day":[[0,9000]],"feeder":[[1,9000]],"total":9000}'
+PLAN = (
+    '{"moved":[["cause",3,246600],["feeder",1,246600],["day",0,246600]],"sections":[{"after":[[1704070800,1704153600,1,3]],'
+    '"before":[[1704070800,1704071400,1,3]],"section":"S2"}]}'
+)
 TWO_CAUSES = '{"cause":[[3,3000],[4,3000]],"day":[[0,6000]],"feeder":[[1,3000],[2,3000]],"total":6000}'
 
 if __name__ == "__main__":

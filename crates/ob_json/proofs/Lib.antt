@@ -1,3 +1,6 @@
 pub mod Rows
 pub mod Indexed
+pub mod Moving
+pub mod Names
+pub mod Planning
 pub mod Example

@@ -1,2 +1,4 @@
 pub mod Totals
 pub mod Indices
+pub mod Moves
+pub mod Plans

@@ -2,11 +2,14 @@
 //!
 //! Defines which members each text has and in what order, without spaces between them. Promises
 //! each text byte for byte, as a function of the values that it shows. `ob_book` uses this crate
-//! for the totals and the indices. `ob_replies` makes the other JSON texts.
+//! for the totals, the indices and plans. `ob_replies` makes the other JSON texts.
 #![tactic(auto)]
 
 mod indices;
+mod moves;
+mod plan;
 mod totals;
 
 pub use indices::indices_text;
+pub use plan::{OutageInterval, SectionChange, forecast_text, same_intervals};
 pub use totals::totals_text;
