@@ -8,8 +8,10 @@
 mod indices;
 mod moves;
 mod plan;
+mod supply;
 mod totals;
 
 pub use indices::indices_text;
 pub use plan::{OutageInterval, SectionChange, forecast_text, same_intervals};
+pub use supply::{DeviceState, UnsuppliedSection};
 pub use totals::totals_text;
