@@ -1,6 +1,6 @@
 -- What plans show, by their definition: a section S1 behind one breaker, from second 0 up to 5, with no customer; the breaker was
 -- opened at 1 and closed at 3.
-use Rattle.std.proofs.Common.{◌≡◌, ℕ, List, [], ◌∷◌, refl, Option, Some, None, codes, pos}
+use Rattle.std.proofs.Common.{◌≡◌, ℕ, List, [], ◌∷◌, refl, Option, Some, None, codes, pos, true}
 use Rattle.ob_net.specs.Walk.{is_supplied, is_connected}
 use Rattle.ob_base.specs.declared.Pos.TheVariants.{Opened, Closed}
 use Rattle.ob_base.specs.declared.Pos.{Pos}

@@ -1,5 +1,5 @@
 -- Outage intervals after a command.
-use Rattle.std.proofs.Common.{◌≡◌, ◌∙◌, sym, ap, ap₂, refl, ℕ, ◌==◌, ◌<◌, ◌≤◌, ◌++◌, Bool, List, [], ◌∷◌, map, length, Option, Some, None, is_some, IsSome, unwrap_or, true, false, length-append, inl, inr, arith}
+use Rattle.std.proofs.Common.{◌≡◌, ◌∙◌, sym, ap, ap₂, refl, ℕ, ◌<◌, ◌≤◌, ◌++◌, Bool, List, [], ◌∷◌, map, length, Option, Some, None, is_some, IsSome, unwrap_or, true, false, length-append, inl, inr, arith}
 use Rattle.std.specs.List.{slice_get}
 use Rattle.std.specs.Option.{option_and_then}
 use Rattle.std.proofs.lemmas.Bool.{cases_eq, cases_lt, eq-eqb, ne_eqb}
@@ -28,8 +28,7 @@ use Rattle.ob_book.specs.Forecasts.{interval_in, intervals_of}
 use Rattle.ob_book.specs.Intervals.{cause_then, entry_said, interval_then, is_section_then, runs_then}
 
 some_true : (o : Option ℕ) → is_some o ≡ true → IsSome o
-some_true None e = cc
-some_true (Some n) e = tt
+some_true o e = e
 
 -- ---- causes
 pub cause_is : (b : BookState) (r : Resolved) (run : Run) → EnteredCause → ChangedCause → SameCause → AreNumbered b.entries → CanTake b r
@@ -71,7 +70,7 @@ runs_lead b c (By delta) lists v are leads section =
     let at = leads lists are in found c.network delta lists (runs_in c) v (new_runs delta v) at.3 section refl
 
 -- ---- sections
-new_last : (nodes : List ANode) (node : ANode) → slice_get (nodes ++ node ∷ []) (length nodes) ≡ Some node
+pub new_last : (nodes : List ANode) (node : ANode) → slice_get (nodes ++ node ∷ []) (length nodes) ≡ Some node
 new_last [] node = refl
 new_last (x ∷ nodes) node = new_last nodes node
 

@@ -1,7 +1,8 @@
 -- Words of the functions that find the outage intervals after a command: the entry that it enters or corrects, the runs that its plan
--- leads to, and whether a node is a section then.
-use Rattle.std.specs.Prelude.{◌==◌, ℕ, Bool, List, Option, Some, None, is_some, if◌then◌else◌}
+-- leads to, the nodes that there are then, and whether a node is a section then.
+use Rattle.std.specs.Prelude.{◌==◌, ◌++◌, ℕ, Bool, List, [], ◌∷◌, Option, Some, None, is_some, if◌then◌else◌}
 use Rattle.ob_net.specs.Network.{Network, home_feeder}
+use Rattle.ob_net.specs.declared.net.Node.{Node as ANode}
 use Rattle.ob_sheet.specs.declared.Entry.{Entry}
 use Rattle.ob_sweep.specs.Deltas.{runs_after}
 use Rattle.ob_sweep.specs.Timeline.{runs_at}
@@ -55,3 +56,17 @@ is_section_then net (Corrected old new) v = is_some (home_feeder net v)
 is_section_then net (Withdrawn old new) v = is_some (home_feeder net v)
 is_section_then net (Marked day engineer) v = is_some (home_feeder net v)
 is_section_then net (Unmarked day) v = is_some (home_feeder net v)
+
+-- the nodes of the network, and the one that joins it
+abbrev pub nodes_then : Network → Resolved → List ANode
+nodes_then net (Cause code name) = net.nodes
+nodes_then net (Node number node) = net.nodes ++ node ∷ []
+nodes_then net (Device number device) = net.nodes
+nodes_then net (Life device old new) = net.nodes
+nodes_then net (Customer c) = net.nodes
+nodes_then net (Service old new) = net.nodes
+nodes_then net (Entered e) = net.nodes
+nodes_then net (Corrected old new) = net.nodes
+nodes_then net (Withdrawn old new) = net.nodes
+nodes_then net (Marked day engineer) = net.nodes
+nodes_then net (Unmarked day) = net.nodes

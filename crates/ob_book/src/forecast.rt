@@ -2,15 +2,17 @@
 ghost use Rattle.std.specs.Prelude.{◌≡◌, ◌<◌, IfOk, IfErr, Some, length, map, slice_get};
 ghost use Rattle.ob_base.specs.Stop.{out_of_memory};
 ghost use Rattle.ob_state.specs.Next.{next};
-ghost use Rattle.ob_state.specs.Resolved.{changed_by, CanTake};
+ghost use Rattle.ob_state.specs.Resolved.{CanTake};
 ghost use Rattle.ob_state.specs.States.{AreRunsOf};
 ghost use Rattle.ob_book.specs.Forecasts as definition;
+ghost use Rattle.ob_book.specs.Intervals.{nodes_then};
 ghost use Rattle.ob_book.specs.Plans.{IsPlan};
 
 use crate::intervals::{intervals_after, intervals_before};
 use crate::plan::Plan;
 use ob_base::{Name, Stop};
 use ob_json::{SectionChange, same_intervals};
+use ob_net::Net;
 use ob_state::{Resolved, State};
 use ob_sweep::Timeline;
 use std::alloc::Global;
@@ -30,7 +32,7 @@ pub fn section_changes<T: Timeline>(
     ensures err { IfErr result (λ stop. stop ≡ out_of_memory) }
 {
     let mut changes = Vec::new(alloc);
-    for node in 0..nodes_after(state, plan.resolved()) {
+    for node in 0..nodes_after(state.net(), plan.resolved()) {
         if let Some(change) = section_change(alloc, state, timeline, plan, node)? {
             changes.push(change)?;
         }
@@ -63,25 +65,29 @@ fn section_change<T: Timeline>(
 }
 
 // The number of nodes after a command.
-fn nodes_after(state: &State, resolved: &Resolved) -> u16
-    requires takes { CanTake state.now.state resolved.now }
-    ensures { result ≡ length (changed_by state.now.state resolved.now).network.nodes }
+#[tactic(auto, using(crate::proofs::Forecasting::none_added))]
+fn nodes_after(net: &Net, resolved: &Resolved) -> u16
+    ensures { result ≡ length (nodes_then net.now.network resolved.now) }
 {
+    let nodes = net.nodes();
     match *resolved {
-        Resolved::Node { number, .. } => number + 1,
-        _ => state.net().nodes(),
+        Resolved::Node { .. } => nodes + 1,
+        _ => nodes,
     }
 }
 
 // The name of a node after a command.
 fn name_after(state: &State, resolved: &Resolved, node: u16) -> Name
     requires takes { CanTake state.now.state resolved.now }
-    requires node { node < length (changed_by state.now.state resolved.now).network.nodes }
-    ensures { slice_get (map (λ n. n.name)
-        (changed_by state.now.state resolved.now).network.nodes) node ≡ Some result }
+    requires node { node < length (nodes_then state.now.state.network resolved.now) }
+    ensures { Some result
+        ≡ slice_get (map (λ n. n.name) (nodes_then state.now.state.network resolved.now)) node }
 {
     match *resolved {
-        Resolved::Node { number, node: added } => {
+        Resolved::Node {
+            number,
+            node: added,
+        } => {
             if number == node {
                 added.name
             } else {

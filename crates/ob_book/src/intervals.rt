@@ -37,7 +37,7 @@ pub fn intervals_before<T: Timeline>(
     if !is_section(state.net(), node) {
         return Ok(Vec::new(alloc));
     }
-    with_causes(alloc, state.sheet(), None, timeline.runs_of(node))
+    with_causes(alloc, state.sheet(), &None, timeline.runs_of(node))
 }
 
 /// Returns the outage intervals of a node after the command of a plan; none if the node is a bus
@@ -63,7 +63,7 @@ pub fn intervals_after<T: Timeline>(
         return Ok(Vec::new(alloc));
     }
     let runs = runs_after(timeline, plan.retiming(), node);
-    with_causes(alloc, state.sheet(), entry_of(resolved), runs)
+    with_causes(alloc, state.sheet(), &entry_of(resolved), runs)
 }
 
 // Whether a node is a section.
@@ -83,7 +83,10 @@ fn is_section_after(net: &Net, resolved: &Resolved, node: u16) -> bool
     ensures { result ≡ is_section_then net.now.network resolved.now node }
 {
     match *resolved {
-        Resolved::Node { number, node: added } => {
+        Resolved::Node {
+            number,
+            node: added,
+        } => {
             if number == node {
                 added.feeder.is_some()
             } else {
@@ -108,8 +111,8 @@ fn entry_of(resolved: &Resolved) -> Option<Entry>
 
 // The outage intervals of a node after a change of them.
 fn runs_after<'a, T: Timeline>(timeline: &'a T, retiming: &'a Retiming, node: u16) -> &'a [Run]
-    requires node { node < length (T.content timeline.now) }
-    ensures runs { result.now ≡ runs_then retiming.now (T.content timeline.now) node }
+    requires { node < length (T.content timeline.now) }
+    ensures { result.now ≡ runs_then retiming.now (T.content timeline.now) node }
 {
     match retiming {
         Retiming::Same => timeline.runs_of(node),
@@ -118,8 +121,8 @@ fn runs_after<'a, T: Timeline>(timeline: &'a T, retiming: &'a Retiming, node: u1
 }
 
 fn runs_by<'a, T: Timeline>(timeline: &'a T, delta: &'a Delta, node: u16) -> &'a [Run]
-    requires node { node < length (T.content timeline.now) }
-    ensures runs { result.now ≡ deltas.runs_after delta.now (T.content timeline.now) node }
+    requires { node < length (T.content timeline.now) }
+    ensures { result.now ≡ deltas.runs_after delta.now (T.content timeline.now) node }
 {
     if delta.touched().binary_search(&node).is_ok() {
         return delta.runs(node);
@@ -131,11 +134,11 @@ fn runs_by<'a, T: Timeline>(timeline: &'a T, delta: &'a Delta, node: u16) -> &'a
 fn with_causes(
     alloc: Global,
     sheet: &Sheet,
-    said: Option<Entry>,
+    said: &Option<Entry>,
     runs: &[Run],
 ) -> Result<Vec<OutageInterval>, Stop>
     ensures intervals { IfOk result (λ list. list.items
-        ≡ map (interval_then sheet.now.entries said) runs.now) }
+        ≡ map (interval_then sheet.now.entries said.now) runs.now) }
     ensures err { IfErr result (λ stop. stop ≡ out_of_memory) }
 {
     let mut intervals = Vec::with_capacity(alloc, runs.len())?;
@@ -145,8 +148,8 @@ fn with_causes(
     Ok(intervals)
 }
 
-fn with_cause(sheet: &Sheet, said: Option<Entry>, run: &Run) -> OutageInterval
-    ensures { result ≡ interval_then sheet.now.entries said run.now }
+fn with_cause(sheet: &Sheet, said: &Option<Entry>, run: &Run) -> OutageInterval
+    ensures { result ≡ interval_then sheet.now.entries said.now run.now }
 {
     OutageInterval {
         since: run.since,
@@ -156,11 +159,11 @@ fn with_cause(sheet: &Sheet, said: Option<Entry>, run: &Run) -> OutageInterval
     }
 }
 
-fn cause_of(sheet: &Sheet, said: Option<Entry>, run: &Run) -> u8
-    ensures { result ≡ cause_then sheet.now.entries said run.now }
+fn cause_of(sheet: &Sheet, said: &Option<Entry>, run: &Run) -> u8
+    ensures { result ≡ cause_then sheet.now.entries said.now run.now }
 {
     match said {
-        Some(entry) => cause_where(sheet, &entry, run),
+        Some(entry) => cause_where(sheet, entry, run),
         None => cause_before(sheet, run),
     }
 }

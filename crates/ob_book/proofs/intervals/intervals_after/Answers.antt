@@ -20,8 +20,8 @@ returns-then-not-is_section_after-clause-intervals g c =
     ∙ sym c.is_section_after.ensures ∙ c.if-not-is_section_after.true in
     c.new.ensures.items ∙ none_next b (next b p.command) p.resolved v c.requires.plan.resolves.takes c.requires.plan.resolves.next out
 
-pub runs_after-requires-clause-node : goal.runs_after-requires-clause-node
-runs_after-requires-clause-node g c =
+pub runs_after-runs-requires : goal.runs_after-runs-requires
+runs_after-runs-requires g c =
     let b = c.args.state.now.state in
     let p = c.args.plan.now in
     has_list_then b (next b p.command) p.retiming (g.T.Timeline.content c.args.timeline.now) c.args.node c.requires.runs c.requires.plan.retiming c.requires.node
@@ -39,7 +39,7 @@ returns-clause-intervals g c =
     IfOk-weaker c.with_causes.result _ _
     (λ list h. h ∙ ap (λ (es : List Entry). map (interval_then es c.entry_of.result) c.runs_after-runs.result.now) c.sheet.ensures
     ∙ ap (λ (said : Option Entry). map (interval_then b.entries said) c.runs_after-runs.result.now) (c.entry_of.ensures ∙ ap entry_said c.resolved-resolved.ensures)
-    ∙ ap (map (interval_then b.entries (entry_said p.resolved))) (c.runs_after-runs.ensures.runs ∙ ap (λ (r : Retiming). runs_then r lists v) c.retiming.ensures)
+    ∙ ap (map (interval_then b.entries (entry_said p.resolved))) (c.runs_after-runs.ensures ∙ ap (λ (r : Retiming). runs_then r lists v) c.retiming.ensures)
     ∙ runs_next b (next b p.command) p.resolved p.retiming lists v c.cause_laws.ensures.entered c.cause_laws.ensures.changed c.cause_laws.ensures.same c.accepted.ensures.sound.numbered
     c.requires.plan.resolves.takes c.requires.plan.resolves.next c.requires.runs c.requires.plan.retiming section)
     c.with_causes.ensures.intervals

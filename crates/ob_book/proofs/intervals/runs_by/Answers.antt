@@ -15,12 +15,12 @@ runs-requires g c =
     All-contains (λ (w : ℕ). IsSome (new_runs c.args.delta.now w)) touched v c.touched.ensures.named
     (is_among touched v c.binary_search.result c.touched.ensures.rising c.binary_search.ensures.position (sym c.is_ok.ensures.value ∙ c.if-is_ok.true))
 
-pub returns-then-is_ok-clause-runs : goal.returns-then-is_ok-clause-runs
-returns-then-is_ok-clause-runs g c =
+pub returns-then-is_ok : goal.returns-then-is_ok
+returns-then-is_ok g c =
     sym (ap (λ (o : Option (List Run)). unwrap_or o (runs_at (g.T.Timeline.content c.args.timeline.now) c.args.node)) c.runs.ensures.runs)
 
-pub returns-clause-runs : goal.returns-clause-runs
-returns-clause-runs g c =
+pub returns : goal.returns
+returns g c =
     let touched = c.touched.result.now in
     let v = c.args.node in
     let apart = isnt_among touched v c.binary_search.result c.touched.ensures.rising c.binary_search.ensures.position (sym c.is_ok.ensures.value ∙ c.if-is_ok.false) in
