@@ -1,5 +1,5 @@
 //! Tests that the timeline of a book adopts each change of the switching log and of the network,
-//! and that the book doesn't replace the timeline.
+//! that the book doesn't replace the timeline, and that showing a plan changes nothing.
 use crate::counting::Counting;
 use crate::example::act_on;
 use crate::feeders::{OUTAGE, TWO_FEEDERS};
@@ -152,4 +152,31 @@ fn commands_speak_of_numbers(rt: HostRuntime) -> Result<(), Fail> {
     take_all(&rt, rt.alloc(), &mut book, TWO_FEEDERS)?;
     take_all(&rt, rt.alloc(), &mut book, OUTAGE)?;
     speak_of(&rt, &mut book, NUMBERS)
+}
+
+// On the two feeders: an opening that would leave S3 without supply until the day ends, and after
+// that plan the closing of the same breaker, which is still closed.
+const PLANS: &'static str =
+    r#"switch B2 open 1704070800 4 K1 => {"moved":[["cause",4,414000],["feeder",2,414000],["day",0,414000]],"sections":[{"after":[[1704070800,1704153600,1,4]],"before":[],"section":"S3"}]}
+switch X9 open 1704070800 4 K1 => UnknownName
+switch B2 close 1704070800 4 K1 => {"moved":[],"sections":[]}"#;
+
+fn plan(rt: &impl Abort, book: &mut Book<Counting>, line: &str) -> Result<(), Fail> {
+    let (body, wanted) = line.split_once(" => ").ok_or("a result")?;
+    let command = read_body(body.as_bytes()).ok_or("a command")?;
+    match book.plan_text(&command) {
+        Ok(text) => assert!(rt; text.as_slice() == wanted.as_bytes()),
+        Err(stop) => assert!(rt; stop.name() == wanted),
+    }
+    Ok(())
+}
+
+#[test]
+fn a_plan_changes_nothing(rt: HostRuntime) -> Result<(), Fail> {
+    let mut book = counting_book(rt.alloc())?;
+    take_all(&rt, rt.alloc(), &mut book, TWO_FEEDERS)?;
+    for line in PLANS.lines() {
+        plan(&rt, &mut book, line)?;
+    }
+    take_all(&rt, rt.alloc(), &mut book, OUTAGE)
 }

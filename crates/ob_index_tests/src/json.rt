@@ -1,7 +1,10 @@
-//! Tests of the JSON text of indices. That of totals is tested in `ob_book_tests`.
+//! Tests of the JSON texts of indices and of plans. That of totals is tested in `ob_book_tests`.
+use crate::moved::row;
 use ob_index::indices::indices;
 use ob_index::{Counts, Indices};
-use ob_json::indices_text;
+use ob_json::{OutageInterval, SectionChange, forecast_text, indices_text, same_intervals};
+use ob_net::Name;
+use ob_post::Dim;
 use std::alloc::Global;
 use std::process::Abort;
 use std::test::Fail;
@@ -35,4 +38,29 @@ fn indices_are_shown(rt: HostRuntime) -> Result<(), Fail> {
     let all = indices(&counts, 864_000, 86_400);
     let unmarked = indices(&none, 864_000, 86_400);
     show(&rt, rt.alloc(), &all, &unmarked)
+}
+
+const FORECAST: &[u8] =
+    br#"{"moved":[["cause",3,-9000]],"sections":[{"after":[[60,90,2,3]],"before":[[60,90,null,0]],"section":"S1"}]}"#;
+
+fn from_60_to_90(entry: Option<u32>, cause: u8) -> OutageInterval {
+    OutageInterval {
+        since: 60,
+        until: 90,
+        entry,
+        cause,
+    }
+}
+
+// The half minute without supply that no entry began gets an entry that began it.
+#[test]
+fn a_plan_is_shown(rt: HostRuntime) -> Result<(), Fail> {
+    let before = vec![in rt.alloc(); from_60_to_90(None, 0)]?;
+    let after = vec![in rt.alloc(); from_60_to_90(Some(2), 3)]?;
+    assert!(&rt; same_intervals(&before, &before) && !same_intervals(&before, &after));
+    let name = Name::read(b"S1").ok_or("a name")?;
+    let sections = vec![in rt.alloc(); SectionChange::new(name, before, after)]?;
+    let text = forecast_text(rt.alloc(), &[row(Dim::Cause, 3, -9_000)], &sections)?;
+    assert!(&rt; text.as_slice() == FORECAST);
+    Ok(())
 }
