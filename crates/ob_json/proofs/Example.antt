@@ -11,6 +11,8 @@ use Rattle.ob_post.specs.declared.Dim.TheVariants.{Cause, Feeder, Day}
 use Rattle.ob_json.specs.Totals.{totals_text}
 use Rattle.ob_json.specs.Plans.{Forecast, are_same_intervals, forecast_text}
 use Rattle.ob_json.specs.declared.plan.OutageInterval.{OutageInterval}
+use Rattle.ob_json.specs.Supplies.{Supply, supply_text}
+use Rattle.ob_base.specs.declared.Pos.TheVariants.{Opened, Closed}
 use Rattle.ob_json.specs.Indices.{indices_text}
 
 -- 9,000 customer-seconds under cause 3, feeder 1 and the first day of two
@@ -76,3 +78,20 @@ other_cause = refl
 
 same_twice : are_same_intervals (interval 300 400 (Some 26) 3 ∷ []) (interval 300 400 (Some 26) 3 ∷ []) ≡ true
 same_twice = refl
+
+-- two sections without supply, of which one was cut off by no entry and has no customer then, and two devices, of which one is not
+-- in service
+abbrev supply : Supply
+supply = record {
+  second = 300;
+  sections =
+      record { section = codes "S1"; since = 300; until = 400; entry = Some 26; cause = 3; customers = 5 }
+      ∷ record { section = codes "S2"; since = 100; until = 500; entry = None; cause = 0; customers = 0 }
+      ∷ [];
+  devices = record { device = codes "CB-1"; position = Opened; alive = true } ∷ record { device = codes "SW-2"; position = Closed; alive = false } ∷ [];
+}
+
+supplied : supply_text supply
+    ≡ codes "{\"devices\":[{\"alive\":true,\"device\":\"CB-1\",\"position\":\"open\"},{\"alive\":false,\"device\":\"SW-2\",\"position\":\"closed\"}],\"second\":300,\"sections\":[{\"cause\":3,\"customers\":5,\"entry\":26,\"section\":\"S1\",\"since\":300,\"until\":400},{\"cause\":0,\"customers\":0,\"entry\":null,\"section\":\"S2\",\"since\":100,\"until\":500}]}"
+unfolding digits serde_json_on_literals
+supplied = refl

@@ -6,7 +6,7 @@ use Rattle.ob_json.specs.Plans.{Forecast, SectionOutages, forecast_data, interva
 use Rattle.ob_json.specs.declared.plan.OutageInterval.{OutageInterval}
 use Rattle.ob_json.proofs.Moving.{moves_have_none}
 
-entry_has_none : (entry : Option ℕ) → has_float (number_or_null entry) ≡ false
+pub entry_has_none : (entry : Option ℕ) → has_float (number_or_null entry) ≡ false
 entry_has_none None = refl
 entry_has_none (Some n) = refl
 

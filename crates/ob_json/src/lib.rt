@@ -13,5 +13,5 @@ mod totals;
 
 pub use indices::indices_text;
 pub use plan::{OutageInterval, SectionChange, forecast_text, same_intervals};
-pub use supply::{DeviceState, UnsuppliedSection};
+pub use supply::{DeviceState, UnsuppliedSection, supply_text};
 pub use totals::totals_text;

@@ -145,7 +145,7 @@ fn one_interval(alloc: Global, interval: &OutageInterval) -> Result<Value, Alloc
     ])
 }
 
-fn entry_or_null(alloc: Global, entry: Option<u32>) -> Result<Value, AllocError>
+pub fn entry_or_null(alloc: Global, entry: Option<u32>) -> Result<Value, AllocError>
     ensures { IfOk result (λ v. view v ≡ number_or_null entry) }
 {
     match entry {
@@ -155,7 +155,7 @@ fn entry_or_null(alloc: Global, entry: Option<u32>) -> Result<Value, AllocError>
 }
 
 #[tactic(auto, using(crate::proofs::Names::identifier_is_utf8))]
-fn name(alloc: Global, name: &Name) -> Result<String, AllocError>
+pub fn name(alloc: Global, name: &Name) -> Result<String, AllocError>
     ensures { IfOk result (λ s. string_bytes s ≡ name.now) }
 {
     String::from_utf8_lossy(alloc, name.bytes())
