@@ -21,7 +21,8 @@ fn take(rt: &impl Abort, alloc: Global, book: &mut Book<Counting>, line: &str) -
     Ok(())
 }
 
-fn take_all(
+/// Takes the lines of a script and checks what each moves.
+pub fn take_all(
     rt: &impl Abort,
     alloc: Global,
     book: &mut Book<Counting>,
@@ -33,8 +34,8 @@ fn take_all(
     Ok(())
 }
 
-// A book of one day.
-fn counting_book(alloc: Global) -> Result<Book<Counting>, Fail> {
+/// A book of one day.
+pub fn counting_book(alloc: Global) -> Result<Book<Counting>, Fail> {
     let period = Period::from_text(alloc, b"2024-01-01", 1, b"UTC0")?;
     let book = Book::new(alloc, period)?;
     Ok(book)
