@@ -1,5 +1,5 @@
 -- What accepted commands moved adds up to what is posted.
-use Rattle.std.proofs.Common.{◌≡◌, ◌∙◌, sym, ap, ap₂, subst, refl, ℕ, zero, suc, ◌+◌, ◌-◌, ℤ, pos, ◌+ℤ◌, ◌-ℤ◌, List, [], ◌∷◌, ◌++◌, fold, length, map, take, take_all, add-sub_cancel, arith}
+use Rattle.std.proofs.Common.{◌≡◌, ◌∙◌, sym, ap, ap₂, subst, refl, ℕ, zero, suc, ◌+◌, pos, ◌+ℤ◌, ◌-ℤ◌, List, [], ◌∷◌, ◌++◌, fold, length, map, take, take_all, add-sub_cancel, arith}
 use Rattle.std.specs.List.{flat_map, range_with_len}
 use Rattle.std.proofs.lemmas.Grind.{flat_map-append}
 use Rattle.std.proofs.lemmas.Int.{ints}
@@ -18,7 +18,6 @@ use Rattle.ob_post.proofs.Deltas.{delta_of-append}
 use Rattle.ob_state.specs.Amounts.{amount, days_of_book, moves}
 use Rattle.ob_state.specs.State.{empty_book}
 use Rattle.ob_book.specs.Acts.{ActState, Referenced, acts, book_at, of_commands, reply_of, start, take_on}
-use Rattle.ob_book.specs.Books.{ArePosted}
 use Rattle.ob_book.specs.MovedSums.{moved_by_first, MovesAddUp, MovesAddUpToPostings}
 use Rattle.ob_book.proofs.ActLaws.{acts_period, changed_period, state_is_of_commands}
 

@@ -4,7 +4,6 @@ ghost use Rattle.ob_base.specs.Stop.{out_of_memory};
 ghost use Rattle.ob_net.specs.Network.{home_feeder};
 ghost use Rattle.ob_post.specs.CauseLaws.{cause_with};
 ghost use Rattle.ob_post.specs.SectionAmounts.{run_cause};
-ghost use Rattle.ob_sheet.specs.Order.{cause_of as cause_under};
 ghost use Rattle.ob_sweep.specs.Deltas as deltas;
 ghost use Rattle.ob_state.specs.Next.{next};
 ghost use Rattle.ob_state.specs.States.{AreRunsOf};
@@ -180,21 +179,9 @@ fn cause_where(sheet: &Sheet, entry: &Entry, run: &Run) -> u8
 }
 
 // The cause that an outage interval has before a command; 0 if no entry cut the section off.
-fn cause_before(sheet: &Sheet, run: &Run) -> u8
+pub fn cause_before(sheet: &Sheet, run: &Run) -> u8
     ensures { result ≡ run_cause sheet.now.entries run.now }
 {
-    match run.cutter {
-        Some(number) => cause_of_entry(sheet, number),
-        None => 0,
-    }
-}
-
-// The cause of the entry with a number; 0 if there is none.
-fn cause_of_entry(sheet: &Sheet, number: u32) -> u8
-    ensures { result ≡ cause_under sheet.now.entries number }
-{
-    match sheet.entry(number) {
-        Some(entry) => entry.cause,
-        None => 0,
-    }
+    let cutter = run.cutter.and_then(|number| sheet.entry(number));
+    cutter.map_or(0, |entry| entry.cause)
 }

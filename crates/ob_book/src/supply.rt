@@ -2,16 +2,15 @@
 ghost use Rattle.std.specs.Prelude.{◌≡◌, ◌&&◌, ◌<◌, IfOk, IfErr, Some, length, map, nat_le, nat_lt, option_map, slice_get};
 ghost use Rattle.std.specs.List.{enumerate_from, filter_map, find, range_with_len};
 ghost use Rattle.ob_base.specs.Stop.{out_of_memory};
-ghost use Rattle.ob_post.specs.SectionAmounts.{run_cause};
 ghost use Rattle.ob_sheet.specs.Order.{upto};
 ghost use Rattle.ob_sheet.specs.Positions.{entered};
 ghost use Rattle.ob_time.specs.Calendar.{end_second_of};
 ghost use Rattle.ob_state.specs.States.{AreRunsOf};
 ghost use Rattle.ob_book.specs.Supplies.{device_state, supply_text_of, unsupplied};
 
+use crate::intervals::cause_before;
 use ob_base::{Pos, Second, Stop};
 use ob_json::{DeviceState, UnsuppliedSection, supply_text};
-use ob_sheet::Sheet;
 use ob_state::State;
 use ob_sweep::{Run, Timeline};
 use std::alloc::Global;
@@ -82,7 +81,7 @@ fn unsupplied_section<T: Timeline>(
         since: run.since,
         until: run.until,
         entry: run.cutter,
-        cause: cause_of(state.sheet(), &run),
+        cause: cause_before(state.sheet(), &run),
         customers: state.roll().served_seconds(node, second, second + 1),
     })
 }
@@ -94,14 +93,6 @@ fn run_at(runs: &[Run], second: Second) -> Option<Run>
     runs.iter()
         .find(|run| run.since <= second && second < run.until)
         .copied()
-}
-
-// The cause of an outage interval; 0 if no entry cut the section off.
-fn cause_of(sheet: &Sheet, run: &Run) -> u8
-    ensures { result ≡ run_cause sheet.now.entries run.now }
-{
-    let cutter = run.cutter.and_then(|number| sheet.entry(number));
-    cutter.map_or(0, |entry| entry.cause)
 }
 
 // Each device at a second, by number.

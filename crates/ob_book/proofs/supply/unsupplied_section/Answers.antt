@@ -25,8 +25,8 @@ returns g c =
     let run = c.in_ok-run.run' in
     let section : is_some (home_feeder b.network v) ≡ true =
     ap (λ (n : Network). is_some (home_feeder n v)) (sym c.net.ensures.network) ∙ ap is_some (sym c.feeder_of.ensures ∙ c.in_ok-feeder_of.was) in
-    section_is b (g.T.Timeline.content c.args.timeline.now) s v run c.node_name.result c.cause_of.result c.served_seconds.result c.requires.runs section
+    section_is b (g.T.Timeline.content c.args.timeline.now) s v run c.node_name.result c.cause_before.result c.served_seconds.result c.requires.runs section
     (ap (find (run_holds s)) (sym c.runs_of.ensures.runs) ∙ sym c.run_at.ensures ∙ c.in_ok-run.was)
     (node_name_is b v c.node_name.result (ap (λ (n : Network). slice_get (map (λ x. x.name) n.nodes) v) (sym c.net-2.ensures.network) ∙ c.node_name.ensures))
-    (c.cause_of.ensures ∙ ap (λ (es : List Entry). run_cause es run) c.sheet.ensures)
+    (c.cause_before.ensures ∙ ap (λ (es : List Entry). run_cause es run) c.sheet.ensures)
     (c.served_seconds.ensures ∙ ap (λ (cs : List Customer). served_seconds cs v s (s + 1)) c.roll.ensures)
