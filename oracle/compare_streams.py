@@ -1,9 +1,11 @@
 """Compares the desk with the plain model, over streams of random commands (make_commands.py).
 
-Each book is served twice, so that it is loaded in between. On the first stream comes one part of the commands, on the
-second the rest, an import of the whole text, and a request for all that the desk shows: totals, indices, annual table,
-each entry, and the stored reply of each command. Refused commands and repeated ones are among them. The streams are cut
-into pieces of random sizes. Every byte of the replies has to be the model's, and so have the rows of the eleven tables.
+Each book is served three times, so that it is loaded in between. On the first stream comes one part of the commands, on
+the second the rest and an import of the whole text, on the third a request for all that the desk shows: totals,
+indices, annual table, each entry, the stored reply of each command, and the supply at some seconds. Each command comes
+as a plan before it is sent. Refused commands and repeated ones are among them, and plans of commands that aren't sent.
+The streams are cut into pieces of random sizes. Every byte of the replies has to be the model's, and so have the rows
+of the eleven tables.
 """
 
 import random
@@ -17,18 +19,34 @@ from pathlib import Path
 from make_commands import calls_of, period_of, text_of
 from model import Book, first_difference
 from over_program import CREATED, SOUND, Difference, OneBook
-from served import Request, answer_of, command_request, reply_data, view_requests
+from served import Request, answer_of, command_request, plan_requests, reply_data, supply_request, view_requests
 from state import Period
 
 
 def requests_of(seed: int, book: Book) -> Iterator[list[Request]]:
     """The requests of each stream; the views are those of the book as the requests before have left it."""
     rng = random.Random(f"streams {seed}")
-    calls = [command_request(row, rng.random() < 0.2) for row in calls_of(seed)]
+    calls = calls_of(seed)
     place = rng.randint(1, len(calls))
-    yield calls[:place]
-    yield [*calls[place:], Request("POST", "/import", text_of(seed))]
-    yield [*view_requests(book)]
+    yield [*planned_and_sent(book, calls[:place], rng)]
+    yield [*planned_and_sent(book, calls[place:], rng), Request("POST", "/import", text_of(seed))]
+    yield [*view_requests(book), *supply_requests(book, 20, rng)]
+
+
+def planned_and_sent(book: Book, calls: Sequence[list[str]], rng: random.Random) -> Iterator[Request]:
+    """Each command as a plan and then as a command, and now and then the supply at a second."""
+    for row in calls:
+        yield from plan_requests(row, rng)
+        yield command_request(row, rng.random() < 0.2)
+        yield from supply_requests(book, rng.choice([0, 0, 0, 1]), rng)
+
+
+def supply_requests(book: Book, count: int, rng: random.Random) -> Iterator[Request]:
+    """The supply at so many seconds, mostly at or beside those at which something changes."""
+    entered = [entry.second for entry in book.entries]
+    turns = [turn for device in book.devices.values() for turn in device.turns()]
+    for _ in range(count):
+        yield supply_request(book.period, [*entered * 3, *turns], rng)
 
 
 def pieces_of(seed: int, data: bytes) -> Iterator[bytes]:

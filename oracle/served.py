@@ -1,14 +1,16 @@
 """What the desk answers by the model: requests of a stream, and the bytes of the reply to each."""
 
 import json
+import random
 from collections.abc import Iterator, Sequence
-from dataclasses import dataclass
+from dataclasses import asdict, dataclass
 from fractions import Fraction
 
 from commands import HEADER, NAMES, Refusal, RowRefusal
 from model import DIMENSIONS, Book, Move, quotient_text
 from plans import plan_of
-from state import Imported
+from state import Imported, Period
+from supplies import supply_of
 
 CONFLICTS = (3, 7, 8, 11, 13, 14)  # the refusals that the book as it is now is the reason of
 REASONS = {200: "OK", 404: "Not Found", 409: "Conflict", 422: "Unprocessable Entity"}
@@ -30,14 +32,32 @@ class Request:
         return "\r\n".join([f"{self.method} {self.target} HTTP/1.1", *fields, "", ""]).encode() + self.body
 
 
-def command_request(row: Sequence[str], is_reversed: bool) -> Request:
+def command_request(row: Sequence[str], is_reversed: bool, target: str = "/commands") -> Request:
     """The command of a row: its texts as members, without the empty ones."""
     members = [(name, text) for name, text in zip(HEADER, row) if text]
-    return Request("POST", "/commands", json.dumps(dict(members[::-1] if is_reversed else members)).encode())
+    return Request("POST", target, json.dumps(dict(members[::-1] if is_reversed else members)).encode())
+
+
+def plan_requests(row: Sequence[str], rng: random.Random) -> Iterator[Request]:
+    """The command of a row as a plan, mostly without a reference, and now and then with a field that is another or bad."""
+    kind, ref, *fields = row
+    yield command_request([kind, rng.choice(["", "", "", ref, ref, "r"]), *fields], rng.random() < 0.2, "/plan")
+    if rng.random() < 0.3:
+        place = rng.randrange(6)
+        fields[place] = rng.choice(["", "*", "1", "GRID", "100000000000", *fields])
+        yield command_request([kind, "", *fields], False, "/plan")
+
+
+def supply_request(period: Period, seconds: Sequence[int], rng: random.Random) -> Request:
+    """The supply at or beside one of some seconds, at or beside a bound of the period, or at what is no second."""
+    near = rng.choice([period.first, period.end - 1, *rng.choices(range(period.first, period.end), k=3), *seconds])
+    second = str(max(0, near + rng.choice([0, 0, 0, -1, 1])))
+    other = rng.choice(["", "x", "-1", "+" + second, "1" + second.zfill(11), second + "/", second.zfill(11)])
+    return Request("GET", f"/supply/{other if rng.random() < 0.1 else second}")
 
 
 def view_requests(book: Book) -> Iterator[Request]:
-    """All that a desk shows of a book, and an entry and a command that aren't there."""
+    """All that a desk shows of a book but the supply, and an entry and a command that aren't there."""
     for target in ["totals", "indices", "table"]:
         yield Request("GET", f"/{target}")
     for target, count in [("entries", len(book.entries)), ("commands", book.accepted())]:
@@ -73,6 +93,8 @@ def view_of(book: Book, target: str) -> str | None:
         return book.totals_text()
     if target == "/indices":
         return indices_text(book)
+    if target.startswith("/supply/"):
+        return supply_text(book, target.removeprefix("/supply/"))
     _, kind, number = target.split("/")
     return entry_text(book, int(number)) if kind == "entries" else accepted_text(book, int(number))
 
@@ -104,6 +126,12 @@ def entry_text(book: Book, number: int) -> str | None:
     entry = book.entries[number - 1]
     shown = {"cause": entry.cause, "crew": entry.crew, "device": entry.device, "kept": entry.is_kept, "no": number}
     return text_of_json(shown | {"position": entry.position, "revision": entry.revision, "second": entry.second})
+
+
+def supply_text(book: Book, second: str) -> str | None:
+    """The supply at a second as JSON."""
+    supply = supply_of(book, second)
+    return text_of_json(asdict(supply)) if supply else None
 
 
 def accepted_text(book: Book, number: int) -> str | None:

@@ -24,6 +24,7 @@ from model import Book, Move, quotient, quotient_text
 from plans import SectionChange, intervals_of, plan_of
 from served import Request, answer_of
 from state import Period, midnight_of
+from supplies import Standing, Unsupplied, standings_at, supply_of, unsupplied_at
 
 T = 1_704_067_200  # 2024-01-01T00:00:00Z
 NETWORK = """\
@@ -442,6 +443,91 @@ class Plans(unittest.TestCase):
         self.assertEqual(answer_of(book, Request("POST", "/plan", body)), (409, "application/json", refused))
 
 
+class Supplies(unittest.TestCase):
+    """The supply at a second, worked out by hand: sections without it, and how the devices stand."""
+
+    def check(self, book: Book, after: int, positions: str, *sections: Unsupplied) -> None:
+        """The sections, and the positions of I1, B1, W1, B2 and T1 as `o` or `c`, at so many seconds after T."""
+        found = supply_of(book, str(T + after))
+        assert found is not None
+        self.assertEqual(found.sections, [*sections])
+        self.assertEqual("".join(device.position[0] for device in found.devices), positions)
+        self.assertEqual([device.device for device in found.devices], ["I1", "B1", "W1", "B2", "T1"])
+
+    def test_opening_and_restoration(self) -> None:
+        """The entries of a second count at it; the end of an interval is its first second with supply."""
+        book = base()
+        act(book, TIE_RESTORES)
+        one, two = Unsupplied("S1", T + 3_600, T + 7_200, 1, 3, 2), Unsupplied("S2", T + 3_600, T + 4_200, 1, 3, 3)
+        self.check(book, 0, "cccco")
+        self.check(book, 3_599, "cccco")
+        self.check(book, 3_600, "cocco", one, two)
+        self.check(book, 4_199, "cocco", one, two)
+        self.check(book, 4_200, "coocc", one)
+        self.check(book, 7_199, "coocc", one)
+        self.check(book, 7_200, "ccocc")
+        self.check(book, 86_399, "ccocc")
+
+    def test_kept_entries(self) -> None:
+        """A withdrawn one counts no more, and a corrected one has its new cause."""
+        book = base()
+        act(book, TIE_RESTORES + "withdraw 3 1\ncorrect 1 1 open +3600 4 K1\n")
+        two = Unsupplied("S2", T + 3_600, T + 86_400, 1, 4, 3)
+        self.check(book, 4_200, "cooco", Unsupplied("S1", T + 3_600, T + 7_200, 1, 4, 2), two)
+        self.check(book, 7_200, "ccoco", two)
+
+    def test_order_of_entries(self) -> None:
+        """By their seconds, and by their numbers in one second."""
+        book = base()
+        act(book, "switch B2 close +200 3 K1\nswitch B2 open +100 4 K1\nswitch B2 open +300 3 K1\n")
+        self.check(book, 150, "cccoo", Unsupplied("S3", T + 100, T + 200, 2, 4, 5))
+        self.check(book, 250, "cccco")
+        act(book, "switch B2 close +300 3 K1\n")
+        self.check(book, 300, "cccco")
+
+    def test_lives(self) -> None:
+        """A device out of service has its position, and carries nothing."""
+        book = base()
+        act(book, TIE_RESTORES + "life T1 0 +6000\n")
+        one, two = Unsupplied("S1", T + 3_600, T + 7_200, 1, 3, 2), Unsupplied("S2", T + 6_000, T + 86_400, None, 0, 3)
+        self.check(book, 5_999, "coocc", one)
+        self.check(book, 6_000, "coocc", one, two)
+        self.assertEqual(standings_at(book, T + 5_999)[4], Standing("T1", "closed", True))
+        self.assertEqual(standings_at(book, T + 6_000)[4], Standing("T1", "closed", False))
+
+    def test_section_without_devices(self) -> None:
+        """It is without supply all along, with no entry; its customers are those in service."""
+        book = base()
+        act(book, "section S9 9\nconnect 11 S9 +100 +200\n")
+        for after, customers in [(0, 0), (99, 0), (100, 1), (199, 1), (200, 0), (86_399, 0)]:
+            self.check(book, after, "cccco", Unsupplied("S9", T, T + 86_400, None, 0, customers))
+
+    def test_no_second_of_the_period(self) -> None:
+        book = base()
+        for text in [str(T - 1), str(T + 86_400), "0", "", "x", f"+{T}", f" {T}", f"{T}.0", f"00{T}", "99999999999"]:
+            self.assertIsNone(supply_of(book, text), text)
+            self.assertEqual(answer_of(book, Request("GET", f"/supply/{text}")), (404, "", ""))
+        self.assertEqual(supply_of(book, f"0{T}"), supply_of(book, str(T)))
+
+    def test_text(self) -> None:
+        book = base()
+        act(book, TIE_RESTORES + "life T1 0 +6000\n")
+        self.assertEqual(answer_of(book, Request("GET", f"/supply/{T + 6_000}")), (200, "application/json", SUPPLY))
+
+    def test_random_supply_is_by_walks(self) -> None:
+        """No walk of devices that are closed and in service leads to just the sections that are told."""
+        for seed in range(1, 21):
+            book = Book(Period(*period_of(seed)))
+            for row in calls_of(seed):
+                with contextlib.suppress(Refusal):
+                    book.act(row)
+            for second in {book.period.first, *(entry.second for entry in book.entries)}:
+                positions = {device.device: device.position for device in standings_at(book, second)}
+                reached = book.supplied(positions, second)
+                sections = [node for node, feeder in book.feeders.items() if feeder is not None and node not in reached]
+                self.assertEqual([section.section for section in unsupplied_at(book, second)], sections)
+
+
 class Imports(unittest.TestCase):
     def check(self, text: str, added: int, again: int, refusal: RowRefusal | None, book: Book | None = None) -> Book:
         book = book or Book(Period("2024-01-01", 1, "UTC0"))
@@ -664,6 +750,13 @@ TOTALS = '{"cause":[[3,9000]],"day":[[0,9000]],"feeder":[[1,9000]],"total":9000}
 PLAN = (
     '{"moved":[["cause",3,246600],["feeder",1,246600],["day",0,246600]],"sections":[{"after":[[1704070800,1704153600,1,3]],'
     '"before":[[1704070800,1704071400,1,3]],"section":"S2"}]}'
+)
+SUPPLY = (
+    '{"devices":[{"alive":true,"device":"I1","position":"closed"},{"alive":true,"device":"B1","position":"open"},'
+    '{"alive":true,"device":"W1","position":"open"},{"alive":true,"device":"B2","position":"closed"},'
+    '{"alive":false,"device":"T1","position":"closed"}],"second":1704073200,"sections":['
+    '{"cause":3,"customers":2,"entry":1,"section":"S1","since":1704070800,"until":1704074400},'
+    '{"cause":0,"customers":3,"entry":null,"section":"S2","since":1704073200,"until":1704153600}]}'
 )
 TWO_CAUSES = '{"cause":[[3,3000],[4,3000]],"day":[[0,6000]],"feeder":[[1,3000],[2,3000]],"total":6000}'
 

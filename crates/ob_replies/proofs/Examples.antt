@@ -15,7 +15,7 @@ use Rattle.ob_post.specs.declared.Dim.TheVariants.{Cause, Feeder, Day}
 use Rattle.ob_post.specs.declared.Moved.{Moved}
 use Rattle.ob_sheet.specs.declared.Entry.{Entry}
 use Rattle.ob_replies.specs.Bodies.{accepted_text, entry_text, refused_text, report_text}
-use Rattle.ob_replies.specs.JsonCommands.{IsJsonCommand, IsValueOf}
+use Rattle.ob_replies.specs.JsonCommands.{command_said, with_reference, IsJsonCommand, IsJsonPlan, IsValueOf}
 use Rattle.ob_replies.specs.Reply.{reply_text}
 use Rattle.ob_replies.specs.declared.reply.MediaType.TheVariants.{Json}
 use Rattle.ob_replies.specs.declared.status.Allow.TheVariants.{Post}
@@ -78,7 +78,7 @@ from_test [] h = IsAscii-nil
 from_test (b ∷ bytes) h = IsAscii-cons b bytes (grind arith) (from_test bytes (grind arith))
 
 -- an ASCII body says what its value does
-of_ascii : (body : List ℕ) (r : Result (List ℕ × Command) Refusal) → list_all is_ascii body ≡ true → IsValueOf (read body) r → IsJsonCommand body r
+of_ascii : (body : List ℕ) (r : Result (List ℕ × Command) Refusal) → list_all is_ascii body ≡ true → IsValueOf (λ texts. texts) (read body) r → IsJsonCommand body r
 of_ascii body r ascii says = rw (is_utf8-from_IsUtf8 body (IsUtf8-from_ascii body (from_test body ascii))) says
 
 -- absent members are empty
@@ -112,3 +112,26 @@ no_object = of_ascii _ _ refl refl
 no_json : IsJsonCommand (codes "{") (Err (BadField 0))
 unfolding is_ascii serde_json_on_literals
 no_json = of_ascii _ _ refl refl
+
+-- an ASCII body says what its value does as a plan
+as_a_plan : (body : List ℕ) (said : Result (List ℕ × Command) Refusal) → list_all is_ascii body ≡ true → IsValueOf (with_reference (codes "-")) (read body) said
+    → IsJsonPlan body (command_said said)
+as_a_plan body said ascii says = (said, rw (is_utf8-from_IsUtf8 body (IsUtf8-from_ascii body (from_test body ascii))) says, refl)
+
+-- a plan lacks the reference, or has an empty one
+a_plan : IsJsonPlan (codes "{\"kind\":\"cause\",\"f1\":\"3\",\"f2\":\"STORM\"}") (Ok (AddsCause 3 (codes "STORM")))
+unfolding is_ascii serde_json_on_literals
+a_plan = as_a_plan _ (Ok (codes "-", AddsCause 3 (codes "STORM"))) refl (Ok (codes "-", AddsCause 3 (codes "STORM")), (Ok (AddsCause 3 (codes "STORM")), refl, refl), refl)
+
+with_an_empty_one : IsJsonPlan (codes "{\"kind\":\"cause\",\"ref\":\"\",\"f1\":\"3\",\"f2\":\"STORM\"}") (Ok (AddsCause 3 (codes "STORM")))
+unfolding is_ascii serde_json_on_literals
+with_an_empty_one = as_a_plan _ (Ok (codes "-", AddsCause 3 (codes "STORM"))) refl (Ok (codes "-", AddsCause 3 (codes "STORM")), (Ok (AddsCause 3 (codes "STORM")), refl, refl), refl)
+
+-- one that it has is a reference
+with_a_bad_one : IsJsonPlan (codes "{\"kind\":\"cause\",\"ref\":\"r1\",\"f1\":\"3\",\"f2\":\"STORM\"}") (Err (BadField 2))
+unfolding is_ascii serde_json_on_literals
+with_a_bad_one = as_a_plan _ (Err (BadField 2)) refl (Err (BadField 2), refl, refl)
+
+with_a_number : IsJsonPlan (codes "{\"kind\":\"cause\",\"ref\":1,\"f1\":\"3\",\"f2\":\"STORM\"}") (Err (BadField 2))
+unfolding is_ascii serde_json_on_literals
+with_a_number = as_a_plan _ (Err (BadField 2)) refl (Err (BadField 2), refl, refl)

@@ -1,4 +1,5 @@
 pub mod Examples
+pub mod Filling
 pub mod Floats
 pub mod Identifiers
 pub mod OnLiterals

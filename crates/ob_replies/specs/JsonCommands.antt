@@ -1,5 +1,5 @@
--- Commands as JSON, RFC 8259: an object whose members are texts under the names of a row's columns.
-use Rattle.std.specs.Prelude.{◌≡◌, ℕ, ◌+◌, ◌&&◌, Bool, true, List, [], ◌∷◌, map, min, Option, Some, None, Result, Ok, Err, unwrap_or, if◌then◌else◌, MatchBool}
+-- Commands as JSON, RFC 8259: an object whose members are texts under the names of a row's columns. A plan's may lack the reference.
+use Rattle.std.specs.Prelude.{◌≡◌, ℕ, ◌+◌, ◌&&◌, Bool, true, List, [], ◌∷◌, map, min, Option, Some, None, Result, Ok, Err, codes, unwrap_or, if◌then◌else◌, MatchBool}
 use Rattle.std.specs.List.{list_any}
 use Rattle.std.specs.Str.{bytes_eq, is_utf8}
 use Rattle.serde_json.specs.Data.{Data, Members, no_members, member}
@@ -53,26 +53,52 @@ abbrev pub AreTextsOf : List (Option (List ℕ)) → Result (List ℕ × Command
 AreTextsOf texts r =
     (row : Result (List ℕ × Command) Refusal) × IsRow (map (λ text. unwrap_or text []) texts) row × (r ≡ leftmost (first_textless 1 texts) row)
 
--- this is what a value says whose members are these: no object, or another member than a column, is a bad body
-abbrev pub IsObjectOf : Option Members → Data → Result (List ℕ × Command) Refusal → Type 0
-IsObjectOf None d r = r ≡ Err (BadField 0)
-IsObjectOf (Some members) d r = MatchBool (are_columns members) (AreTextsOf (texts_of d) r) (r ≡ Err (BadField 0))
+-- the columns' texts, with this reference where theirs is empty
+abbrev pub with_reference : List ℕ → List (Option (List ℕ)) → List (Option (List ℕ))
+with_reference reference (kind ∷ Some [] ∷ fields) = kind ∷ Some reference ∷ fields
+with_reference reference texts = texts
+
+-- this is what a value says whose members are these, once its columns' texts are filled in: no object, or another member than a column, is a bad body
+abbrev pub IsObjectOf : (List (Option (List ℕ)) → List (Option (List ℕ))) → Option Members → Data → Result (List ℕ × Command) Refusal → Type 0
+IsObjectOf filled None d r = r ≡ Err (BadField 0)
+IsObjectOf filled (Some members) d r = MatchBool (are_columns members) (AreTextsOf (filled (texts_of d)) r) (r ≡ Err (BadField 0))
 
 -- this is what a value says, where there is one
-abbrev pub IsValueOf : Option Data → Result (List ℕ × Command) Refusal → Type 0
-IsValueOf None r = r ≡ Err (BadField 0)
-IsValueOf (Some d) r = IsObjectOf (as_object d) d r
+abbrev pub IsValueOf : (List (Option (List ℕ)) → List (Option (List ℕ))) → Option Data → Result (List ℕ × Command) Refusal → Type 0
+IsValueOf filled None r = r ≡ Err (BadField 0)
+IsValueOf filled (Some d) r = IsObjectOf filled (as_object d) d r
 
 -- this is what a body says: a reference and a command, or the leftmost bad column, which is 0 for the body as a whole
 abbrev pub IsJsonCommand : List ℕ → Result (List ℕ × Command) Refusal → Type 0
-IsJsonCommand body r = IsValueOf (json_in body) r
+IsJsonCommand body r = IsValueOf (λ texts. texts) (json_in body) r
+
+-- what was said, without the reference
+abbrev pub command_said : Result (List ℕ × Command) Refusal → Result Command Refusal
+command_said (Ok (reference, command)) = Ok command
+command_said (Err refusal) = Err refusal
+
+-- this is what a plan's body says: the command that it says, or its leftmost bad column, where an empty reference counts as `-`
+abbrev pub IsJsonPlan : List ℕ → Result Command Refusal → Type 0
+IsJsonPlan body r = (said : Result (List ℕ × Command) Refusal) × IsValueOf (with_reference (codes "-")) (json_in body) said × (r ≡ command_said said)
+
+-- what is read from what is said: that, or that memory was refused
+abbrev pub Reads : {A : Type 0} → (Result A Refusal → Type 0) → Result A Stop → Type 0
+Reads IsSaid (Ok command) = IsSaid (Ok command)
+Reads IsSaid (Err (stops.Refused refusal)) = IsSaid (Err refusal)
+Reads IsSaid (Err (stops.Fault fault)) = fault ≡ OutOfMemory
 
 -- what a body says, or that memory was refused
 abbrev pub ReadsJsonCommand : List ℕ → Result (List ℕ × Command) Stop → Type 0
-ReadsJsonCommand body (Ok command) = IsJsonCommand body (Ok command)
-ReadsJsonCommand body (Err (stops.Refused refusal)) = IsJsonCommand body (Err refusal)
-ReadsJsonCommand body (Err (stops.Fault fault)) = fault ≡ OutOfMemory
+ReadsJsonCommand body r = Reads (IsJsonCommand body) r
+
+-- what a plan's body says, or that memory was refused
+abbrev pub ReadsJsonPlan : List ℕ → Result Command Stop → Type 0
+ReadsJsonPlan body r = Reads (IsJsonPlan body) r
 
 -- a body says one thing
 abbrev pub JsonCommandsSayOneThing : Type 0
 JsonCommandsSayOneThing = (body : List ℕ) (a b : Result (List ℕ × Command) Refusal) → IsJsonCommand body a → IsJsonCommand body b → a ≡ b
+
+-- a plan's body says one thing
+abbrev pub JsonPlansSayOneThing : Type 0
+JsonPlansSayOneThing = (body : List ℕ) (a b : Result Command Refusal) → IsJsonPlan body a → IsJsonPlan body b → a ≡ b

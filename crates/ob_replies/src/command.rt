@@ -3,7 +3,7 @@ ghost use Rattle.std.specs.Prelude.{◌≡◌, [], IfErr, IfOk, map, option_map,
 ghost use Rattle.serde_json.specs.Find.{as_object, get};
 ghost use Rattle.serde_json.specs.View.{members_view, view};
 ghost use Rattle.ob_base.specs.Stop.{out_of_memory};
-ghost use Rattle.ob_replies.specs.JsonCommands.{are_columns, first_textless, is_column_name, json_in, leftmost as the_leftmost, text_of, texts_of, AreTextsOf, IsObjectOf, JsonCommandsSayOneThing, ReadsJsonCommand};
+ghost use Rattle.ob_replies.specs.JsonCommands.{are_columns, first_textless, is_column_name, json_in, leftmost as the_leftmost, text_of, texts_of, with_reference, AreTextsOf, IsObjectOf, IsValueOf, JsonCommandsSayOneThing, JsonPlansSayOneThing, Reads, ReadsJsonCommand, ReadsJsonPlan};
 
 use ob_base::{Fault, Ref, Refusal, Stop};
 use ob_command::{Command, read_row, rows_law};
@@ -16,13 +16,21 @@ use std::alloc::Global;
 /// of the leftmost bad column; a member that is no text makes its column bad. Refuses with
 /// `BadField(0)` if the body is no JSON, no object, or has another member. The only fault is a
 /// failed allocation.
+#[tactic(auto, using(crate::proofs::Filling::reads_as_given))]
 pub fn read_command(alloc: Global, body: &[u8]) -> Result<(Ref, Command), Stop>
     ensures { ReadsJsonCommand body.now result }
 {
-    match json(alloc, body)? {
-        Some(value) => Ok(command_of(&value)?),
-        None => Err(Stop::Refused(Refusal::BadField(0))),
-    }
+    read(alloc, body, b"")
+}
+
+/// Reads a plan's command from a JSON object, as [`read_command`] does, but `ref` may be absent or
+/// empty. One that is given has to be a reference, and isn't returned.
+#[tactic(auto, using(crate::proofs::Filling::stops_a_plan))]
+pub fn read_plan(alloc: Global, body: &[u8]) -> Result<Command, Stop>
+    ensures { ReadsJsonPlan body.now result }
+{
+    let (_, command) = read(alloc, body, b"-")?;
+    Ok(command)
 }
 
 /// States that a body has exactly one reading: a reference and a command, or the refusal of one
@@ -32,6 +40,23 @@ pub fn json_commands_law()
 {
     // Contract of this call: a row has exactly one reading.
     rows_law();
+}
+
+/// States that a body has exactly one reading as a plan.
+pub fn json_plans_law()
+    ensures { JsonPlansSayOneThing }
+{
+    rows_law();
+}
+
+// What a body says, where `reference` stands for an absent or empty one.
+fn read(alloc: Global, body: &[u8], reference: &[u8]) -> Result<(Ref, Command), Stop>
+    ensures { Reads (IsValueOf (with_reference reference.now) (json_in body.now)) result }
+{
+    match json(alloc, body)? {
+        Some(value) => Ok(command_of(&value, reference)?),
+        None => Err(Stop::Refused(Refusal::BadField(0))),
+    }
 }
 
 // The JSON value of a body; None if the body isn't UTF-8 or isn't JSON. Fails only if an allocation
@@ -53,8 +78,9 @@ fn json(alloc: Global, body: &[u8]) -> Result<Option<Value>, Stop>
     }
 }
 
-fn command_of(value: &Value) -> Result<(Ref, Command), Refusal>
-    ensures { IsObjectOf (as_object (view value.now)) (view value.now) result }
+fn command_of<'v>(value: &'v Value, reference: &'v [u8]) -> Result<(Ref, Command), Refusal>
+    ensures { IsObjectOf (with_reference reference.now) (as_object (view value.now))
+        (view value.now) result }
 {
     let Some(members) = value.as_object() else {
         return Err(Refusal::BadField(0));
@@ -62,7 +88,7 @@ fn command_of(value: &Value) -> Result<(Ref, Command), Refusal>
     if !has_columns_alone(members) {
         return Err(Refusal::BadField(0));
     }
-    command_of_texts(value)
+    command_of_texts(&filled(texts_in(value), reference))
 }
 
 fn has_columns_alone(members: &Map<String, Value>) -> bool
@@ -87,12 +113,26 @@ fn is_column(name: &str) -> bool
     false
 }
 
-fn command_of_texts(value: &Value) -> Result<(Ref, Command), Refusal>
-    ensures { AreTextsOf (texts_of (view value.now)) result }
+fn command_of_texts(texts: &[Option<&[u8]>; COLUMNS]) -> Result<(Ref, Command), Refusal>
+    ensures { AreTextsOf (map (λ t. option_map (λ s. s.now) t) texts.now) result }
 {
-    let texts = texts_in(value);
-    let row = read_row(&row_of(&texts));
-    take_leftmost(textless(&texts), row)
+    let row = read_row(&row_of(texts));
+    take_leftmost(textless(texts), row)
+}
+
+// The texts of the columns, with this reference in the second column if its text is empty.
+fn filled<'t>(
+    texts: [Option<&'t [u8]>; COLUMNS],
+    reference: &'t [u8],
+) -> [Option<&'t [u8]>; COLUMNS]
+    ensures { map (λ t. option_map (λ s. s.now) t) result ≡ with_reference reference.now
+        (map (λ t. option_map (λ s. s.now) t) texts.entry) }
+{
+    let mut filled = texts;
+    if let Some(b"") = filled[1] {
+        filled[1] = Some(reference);
+    }
+    filled
 }
 
 // The text of each column.

@@ -14,7 +14,7 @@ mod reply;
 mod status;
 
 pub use body::{accepted_text, entry_text, refused_text, report_text};
-pub use command::{json_commands_law, read_command};
+pub use command::{json_commands_law, json_plans_law, read_command, read_plan};
 pub use constant::empty_reply;
 pub use reply::{MediaType, reply_text};
 pub use status::{Allow, Status, refusal_status, report_status};

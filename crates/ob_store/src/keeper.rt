@@ -55,7 +55,13 @@ fn settle<T: Timeline>(book: &mut Option<Book<T>>, stop: Stop)
 }
 
 impl<S: Alter, T: Timeline> Keeper<S, T> {
-    ghost use Rattle.std.specs.Prelude.{◌≡◌, ◌↔◌, false, None, Some, Err, IsSome, IsTrue, IfErr, OnOk};
+    ghost use Rattle.std.specs.Prelude.{◌≡◌, ◌↔◌, false, None, Some, Err, IsSome, IsTrue, IfErr, IfOk, OnOk};
+    ghost use Rattle.ob_base.specs.declared.stop.Refusal.{Refusal as ARefusal};
+    ghost use Rattle.ob_base.specs.declared.stop.Fault.{Fault as AFault};
+    ghost use Rattle.ob_base.specs.declared.stop.Stop.{Stop as AStop};
+    ghost use Rattle.ob_state.specs.State.{BookState};
+    ghost use Rattle.ob_state.specs.Refusals.{refusal as refusal_to};
+    ghost use Rattle.ob_book.specs.Forecasts.{forecast_text_of};
     ghost use Rattle.sqlite.specs.Held.{state};
     ghost use Rattle.sqlite.specs.State.{HasCleanDisk, Survives};
     ghost use Rattle.ob_book.specs.Acts.{ActState};
@@ -338,6 +344,26 @@ impl<S: Alter, T: Timeline> Keeper<S, T> {
                 settle(&mut self.book, stop);
                 Err(stop)
             }
+        }
+    }
+
+    /// What a command would do, as JSON: the changes of amounts that it would make, and the sections
+    /// whose outage intervals it would change. Nothing is entered or written, and no reference is
+    /// looked up. `Fault::Reopen` if the keeper has no book; the only other fault is a failed
+    /// allocation.
+    pub fn plan(&mut self, command: &Command) -> Result<Vec<u8>, Stop>
+        ensures reopen { (self.old.book ≡ None) ↔ (result ≡ Err (Stop.Fault Fault.Reopen)) }
+        ensures same { self.new ≡ self.old }
+        ensures err { IsSome self.old.book → (fault : AFault) → result ≡ Err (AStop.Fault fault)
+            → fault ≡ AFault.OutOfMemory }
+        ensures refused { (b : BookState) → self.old.book ≡ Some b → (refusal : ARefusal)
+            → (result ≡ Err (AStop.Refused refusal)) ↔ (refusal_to b command.now ≡ Some refusal) }
+        ensures text { (b : BookState) → self.old.book ≡ Some b
+            → IfOk result (λ text. text.items ≡ forecast_text_of b command.now) }
+    {
+        match &mut self.book {
+            Some(book) => book.plan_text(command),
+            None => Err(Stop::Fault(Fault::Reopen)),
         }
     }
 

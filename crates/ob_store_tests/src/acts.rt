@@ -56,10 +56,18 @@ fn commands_and_what_they_leave(rt: HostRuntime) -> Result<(), Stop> {
     Ok(())
 }
 
-// The stored replies after the outage and its correction.
+// The plan of the correction, which then moves the same.
+const PLAN: &'static str =
+    r#"{"moved":[["cause",3,-1200],["feeder",1,-1200],["day",0,-1200]],"sections":[{"after":[[1704070800,1704073800,1,3]],"before":[[1704070800,1704074400,1,3]],"section":"S1"}]}"#;
+
+// The stored replies after the outage and its correction; plans leave the book as it was.
 const REPLIES: Story = Story {
     book: OUTAGE_BOOK,
     cases: &[&[
+        Step::Note,
+        Step::Plan("- correct 4 1 close 1704073800 3 K1", PLAN),
+        Step::Plan("- withdraw 9 1", "UnknownEntry"),
+        Step::Same,
         Step::Tell(CORRECTED),
         Step::Reply(0, "none"),
         Step::Reply(1, "1"),

@@ -69,12 +69,13 @@ fn a_database_of_something_else(rt: HostRuntime) -> Result<(), Stop> {
     tell(&rt, rt.alloc(), SOMETHING_ELSE)
 }
 
-// Without a book, sending a command or asking for a stored reply requires one to be loaded first;
-// then a book is created, and takes commands.
+// Without a book, sending a command, planning it or asking for a stored reply requires one to be
+// loaded first; then a book is created, and takes commands.
 const BEGUN: Story = Story {
     book: &[],
     cases: &[&[
         Step::Tell("N1 cause 3 STORM => no: 22 Reopen"),
+        Step::Plan("N1 cause 3 STORM", "Reopen"),
         Step::Reply(1, "no: 22 Reopen"),
         NEW,
         Step::Tell(TWO_FEEDERS),

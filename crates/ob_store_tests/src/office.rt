@@ -68,6 +68,9 @@ pub trait Office: Drop {
     /// Sends the command of a line, which is a reference and a body text.
     fn acts(&mut self, line: &str) -> Result<Reply, Stop>;
 
+    /// The plan of the command of a line.
+    fn plans(&mut self, line: &str) -> Result<Vec<u8>, Stop>;
+
     /// The stored reply of a command, or None if there is none.
     fn replies(&mut self, no: u32) -> Result<Option<Reply>, Stop>;
 
@@ -201,6 +204,11 @@ impl<S: Blank, T: Timeline> Office for Keeper<S, T> {
             Some((reference, command)) => self.act(reference, command),
             None => Err(Stop::Refused(Refusal::BadField(0))),
         }
+    }
+
+    fn plans(&mut self, line: &str) -> Result<Vec<u8>, Stop> {
+        let (_, command) = asked(line).ok_or(Stop::Refused(Refusal::BadField(0)))?;
+        self.plan(&command)
     }
 
     fn replies(&mut self, no: u32) -> Result<Option<Reply>, Stop> {

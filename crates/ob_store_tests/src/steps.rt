@@ -15,6 +15,8 @@ pub enum Step {
     Make(&'static [u8], u16, &'static [u8], Result<(), Stop>),
     /// Sends the lines of a script, which get the answers in them.
     Tell(&'static str),
+    /// Plans the command of a line: the plan's text, or why there is none.
+    Plan(&'static str, &'static str),
     /// Asks for the stored reply of a command.
     Reply(u32, &'static str),
     /// Runs these statements, and goes on with another `Keeper`, without a book.
@@ -211,6 +213,7 @@ fn is_answered<O: Office>(
     match step {
         Step::Make(first, days, zone, wanted) => Ok(office.makes(first, *days, zone) == *wanted),
         Step::Tell(script) => is_answered_so(rt, alloc, office, script),
+        Step::Plan(line, wanted) => Ok(is_planned(office, line, wanted)),
         Step::Reply(no, wanted) => is_stored(alloc, office, *no, wanted),
         Step::Audit(wanted) => Ok(office.audits() == *wanted),
         Step::Load(wanted) => Ok(office.loads() == *wanted),
@@ -235,6 +238,13 @@ fn is_answered_so<O: Office>(
         assert!(rt; found.as_str() == wanted, "{asked}: {found}");
     }
     Ok(true)
+}
+
+fn is_planned<O: Office>(office: &mut O, line: &str, wanted: &str) -> bool {
+    match office.plans(line) {
+        Ok(text) => text.as_slice() == wanted.as_bytes(),
+        Err(stop) => stop.name() == wanted,
+    }
 }
 
 fn is_stored<O: Office>(

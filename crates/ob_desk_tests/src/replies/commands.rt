@@ -1,7 +1,7 @@
 //! Tests of commands as JSON.
 use ob_base::{Refusal, Stop};
 use ob_command::{Command, body_text};
-use ob_replies::{json_commands_law, read_command};
+use ob_replies::{json_commands_law, json_plans_law, read_command, read_plan};
 use std::alloc::Global;
 use std::process::Abort;
 use std::test::Fail;
@@ -84,5 +84,37 @@ fn bad_bodies(rt: HostRuntime) -> Result<(), Fail> {
     is_bad(&rt, rt.alloc(), b"", 0);
     is_bad(&rt, rt.alloc(), b"\"\xff\"", 0);
     is_bad(&rt, rt.alloc(), b"\xef\xbb\xbf{}", 0);
+    Ok(())
+}
+
+// Bodies of plans, with the text of the command, or the column that is bad.
+const PLANS: &'static str = r#"{"kind":"cause","f1":"3","f2":"STORM"} => cause 3 STORM
+{"kind":"bus","ref":"","f1":"BUS-A"} => bus BUS-A
+{"kind":"bus","ref":"R1","f1":"BUS-A"} => bus BUS-A
+{"kind":"bus","ref":"r1","f1":"BUS-A"} => 2
+{"kind":"bus","ref":null,"f1":""} => 2
+{"kind":"fuse","ref":1} => 1
+{"kind":"bus","f1":"b"} => 3
+{"kind":"bus","Ref":"R1"} => 0
+"#;
+
+fn plans(rt: &impl Abort, alloc: Global, line: &str) -> Result<(), Fail> {
+    let (body, wanted) = line.split_once(" => ").ok_or("a line")?;
+    match read_plan(alloc, body.as_bytes()) {
+        Ok(command) => has_text(rt, alloc, &command, wanted.as_bytes())?,
+        Err(Stop::Refused(Refusal::BadField(column))) => {
+            assert!(rt; wanted.as_bytes() == [column.saturating_add(b'0')].as_slice());
+        }
+        Err(stop) => return Err(stop.into()),
+    }
+    Ok(())
+}
+
+#[test]
+fn bodies_of_plans(rt: HostRuntime) -> Result<(), Fail> {
+    json_plans_law();
+    for line in PLANS.lines() {
+        plans(&rt, rt.alloc(), line)?;
+    }
     Ok(())
 }

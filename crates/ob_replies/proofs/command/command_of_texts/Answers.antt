@@ -1,7 +1,7 @@
-use Rattle.std.proofs.Common.{◌∙◌, ap, subst, sym, ℕ, Bor, List, [], Option, map, option_map, unwrap_or}
+use Rattle.std.proofs.Common.{◌∙◌, ap, subst, sym, ℕ, Bor, List, [], Option, option_map, unwrap_or}
 use Rattle.std.proofs.lemmas.Simd.{map-map}
 use Rattle.ob_command.specs.Fields.{IsRow}
-use Rattle.ob_replies.specs.JsonCommands.{first_textless, leftmost}
+use Rattle.ob_replies.specs.JsonCommands.{leftmost}
 use Rattle.ob_replies.proofs.command.command_of_texts.Goals as goal
 
 abbrev bytes : Option (Bor (List ℕ)) → Option (List ℕ)
@@ -14,10 +14,8 @@ pub returns : goal.returns
 returns c = (
   c.read_row-row.result,
   subst (λ (row : List (List ℕ)). IsRow row c.read_row-row.result)
-      (c.row_of.ensures ∙ sym (map-map or_nothing bytes c.texts_in-texts.result)
-      ∙ ap (λ (texts : List (Option (List ℕ))). map or_nothing texts) c.texts_in-texts.ensures)
+      (c.row_of.ensures ∙ sym (map-map or_nothing bytes c.args.texts.now))
       c.read_row-row.ensures,
   c.take_leftmost.ensures
-      ∙ ap (λ (column : Option ℕ). leftmost column c.read_row-row.result)
-      (c.textless.ensures ∙ ap (λ (texts : List (Option (List ℕ))). first_textless 1 texts) c.texts_in-texts.ensures),
+      ∙ ap (λ (column : Option ℕ). leftmost column c.read_row-row.result) c.textless.ensures,
 )
