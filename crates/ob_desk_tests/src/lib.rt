@@ -24,6 +24,8 @@ mod loopback;
 #[cfg(test)]
 mod memory;
 #[cfg(test)]
+mod plans;
+#[cfg(test)]
 mod replies;
 #[cfg(test)]
 mod requests;

@@ -57,6 +57,11 @@ GET /entries/4294967296 => 404
 GET /commands/ => 404
 GET /commands/99999999999 => 404
 GET /commands/1x => 404
+GET /supply => 404
+GET /supply/ => 404
+GET /supply/x => 404
+GET /supply/001704070800 => 404
+GET /plan/ => 404
 POST / => 404
 POST /nothing => 404
 POST /totals/ => 404
@@ -75,11 +80,13 @@ POST /commands/1x => 404
 GET /commands => 405 POST
 GET /import => 405 POST
 GET /import?x => 405 POST
+GET /plan => 405 POST
 POST /totals => 405 GET
 POST /indices => 405 GET
 POST /table => 405 GET
 POST /entries/9 => 405 GET
 POST /commands/0 => 405 GET
+POST /supply/1704070800 => 405 GET
 ";
 
 #[test]
@@ -94,8 +101,10 @@ const NEEDY: &[&'static [u8]] = &[
     b"GET /table HTTP/1.1\r\nHost: a\r\n\r\n",
     b"GET /entries/1 HTTP/1.1\r\nHost: a\r\n\r\n",
     b"GET /commands/1 HTTP/1.1\r\nHost: a\r\n\r\n",
+    b"GET /supply/1704070800 HTTP/1.1\r\nHost: a\r\n\r\n",
     b"POST /commands HTTP/1.1\r\nHost: a\r\nContent-Length: 1\r\n\r\n[",
     b"POST /import HTTP/1.1\r\nHost: a\r\nContent-Length: 0\r\n\r\n",
+    b"POST /plan HTTP/1.1\r\nHost: a\r\nContent-Length: 1\r\n\r\n[",
 ];
 
 // Without a book a request that needs one is answered 503, which ends its stream, also if that

@@ -15,7 +15,7 @@ use Rattle.ob_import.specs.Reports.{Breaks, HasCause, Imported, import_as}
 use Rattle.ob_import.specs.declared.report.ImportReport.{ImportReport}
 use Rattle.ob_requests.specs.declared.framing.Method.TheVariants as methods
 use Rattle.ob_replies.specs.JsonCommands.{IsJsonCommand}
-use Rattle.ob_routes.specs.Answers.{Answer, answer_text, got, outcome, refused, report_answer, reported}
+use Rattle.ob_routes.specs.Answers.{Answer, IsPlanAnswer, answer_text, got, outcome, refused, report_answer, reported}
 use Rattle.ob_routes.specs.Answering.{ActGives, Gives, Makes, RouteAnswered}
 use Rattle.ob_routes.specs.declared.reply.ReplyText.{ReplyText}
 use Rattle.ob_routes.specs.declared.routes.Route.{Route}
@@ -80,6 +80,12 @@ module _ {S : Type 0} (g : Ghosts S) where
   answered_got new b route body closes (Err Reopen) h = absurd h
   answered_got new b route body closes (Err Input) h = absurd h
   answered_got new b route body closes (Err Output) h = absurd h
+
+  -- a body that asks for a plan
+  pub answered_planned : (new : KeeperValue S) (b : ActState) (body : List ℕ) (a : Answer) (closes : Bool) (result : Result ReplyText Fault)
+      → IsPlanAnswer b.book body a → Makes a closes result → Ties g new b → RouteAnswered g new b methods.Post (Some routes.Plan) body closes result
+  answered_planned new b body a closes (Ok text) is made ties = (a, b, (is, refl), made, ties)
+  answered_planned new b body a closes (Err fault) is made ties = rw made ties
 
   -- an import that was reported
   pub answered_report : (new : KeeperValue S) (b : ActState) (body : List ℕ) (report : ImportReport) (closes : Bool) (result : Result ReplyText Fault)

@@ -1,6 +1,6 @@
 -- What the parts of the desk make of a keeper, with a book and without one, by cases on what the calls below answered.
 use Rattle.std.proofs.Common.{◌≡◌, ◌↔◌, ◌∙◌, sym, ap, subst, refl, ℕ, Bool, true≢false, List, Option, Some, None, Result, Ok, Err, inl, inr, is_some, is_ok}
-use Rattle.std.specs.Prelude.{IsSome, IfErr, option_map}
+use Rattle.std.specs.Prelude.{IsSome, IfErr, IfSome, option_map}
 use Rattle.ob_base.specs.declared.stop.Fault.{Fault}
 use Rattle.ob_base.specs.declared.stop.Fault.TheVariants.{OutOfMemory, Store, Reopen, Input, Output}
 use Rattle.ob_base.specs.declared.stop.Refusal.{Refusal}
@@ -20,12 +20,12 @@ use Rattle.ob_import.specs.declared.report.ImportFault.{ImportFault}
 use Rattle.ob_import.specs.declared.report.ImportReport.{ImportReport}
 use Rattle.ob_requests.specs.declared.framing.Method.TheVariants as methods
 use Rattle.ob_replies.specs.declared.reply.MediaType.TheVariants as types
-use Rattle.ob_routes.specs.Answers.{Answer, answer_text, found, got, media_of, outcome, refused, reply_body, report_answer, view_text}
+use Rattle.ob_routes.specs.Answers.{Answer, IsPlanAnswer, answer_text, found, got, media_of, outcome, refused, reply_body, report_answer, view_text}
 use Rattle.ob_routes.specs.Answering.{ActGives, Gives, IsAnswerFault, Makes, RouteAnswered, Serves, text_bytes}
 use Rattle.ob_routes.specs.declared.reply.ReplyText.{ReplyText}
 use Rattle.ob_routes.specs.declared.routes.Route.TheVariants as routes
 use Rattle.ob_routes.specs.declared.routes.View.{View}
-use Rattle.ob_routes.proofs.AnsweringLemmas.{answered_report, answered_stop, gives_accepted, gives_made, gives_refused}
+use Rattle.ob_routes.proofs.AnsweringLemmas.{answered_planned, answered_report, answered_stop, gives_accepted, gives_made, gives_refused}
 
 -- ---- replies and faults
 
@@ -279,6 +279,34 @@ module _ {S : Type 0} (g : Ghosts S) where
     clean = clean;
     answered = λ cl b ties there. rw goes (acted_gives old new b x fault closes (made cl b ties there));
   }
+
+  -- ---- a plan
+
+  -- the book of a keeper is that of the state which its store keeps
+  held_book : (o : Option BookState) (s : BookState) → IsSome o → IfSome o (λ t. t ≡ s) → o ≡ Some s
+  held_book None s is same = absurd (true≢false (sym is))
+  held_book (Some t) s is same = ap Some same
+
+  serves_a_plan : (k : KeeperValue S) (body : List ℕ) (a : Answer) (closes : Bool) (result : Result ReplyText Fault)
+      → IsSome k.book → ((s : BookState) → k.book ≡ Some s → IsPlanAnswer s body a) → Makes a closes result
+      → Serves g k k (λ b. RouteAnswered g k b methods.Post (Some routes.Plan) body closes result) None closes result
+  serves_a_plan k body a closes result there is made =
+      serves_made k (λ b. RouteAnswered g k b methods.Post (Some routes.Plan) body closes result) a closes result there made
+      (λ b ties. answered_planned g k b body a closes result (is b.book (held_book k.book b.book there ties.book)) made ties)
+
+  pub serves_planned : (old new : KeeperValue S) (body : List ℕ) (a : Answer) (closes : Bool) (result : Result ReplyText Fault)
+      → new ≡ old → IsSome old.book → ((s : BookState) → old.book ≡ Some s → IsPlanAnswer s body a) → Makes a closes result
+      → Serves g old new (λ b. RouteAnswered g new b methods.Post (Some routes.Plan) body closes result) None closes result
+  serves_planned old new body a closes result same there is made =
+      subst (λ (k : KeeperValue S). Serves g old k (λ b. RouteAnswered g k b methods.Post (Some routes.Plan) body closes result) None closes result) (sym same)
+      (serves_a_plan old body a closes result there is made)
+
+  -- memory is refused to a plan
+  pub serves_unplanned : (old new : KeeperValue S) (body : List ℕ) (closes : Bool) → new ≡ old → IsSome old.book
+      → Serves g old new (λ b. RouteAnswered g new b methods.Post (Some routes.Plan) body closes (Err OutOfMemory)) None closes (Err OutOfMemory)
+  serves_unplanned old new body closes same there =
+      subst (λ (k : KeeperValue S). Serves g old k (λ b. RouteAnswered g k b methods.Post (Some routes.Plan) body closes (Err OutOfMemory)) None closes (Err OutOfMemory)) (sym same)
+      (serves_short old (λ b. RouteAnswered g old b methods.Post (Some routes.Plan) body closes (Err OutOfMemory)) closes there (λ b ties. ties))
 
   -- ---- an import
 

@@ -64,8 +64,8 @@ module _ {S : Type 0} (g : Ghosts S) where
   ActGives new b x closes (Err Store) = StoresEither g new b (act b x) × (new.book ≡ None)
   ActGives new b x closes (Err fault) = ⊥
 
-  -- what stands where memory was refused: the state before; or with the command whose reply couldn't be made; or with the first
-  -- rows of an import, or all that it did, where its report couldn't be made
+  -- what stands where memory was refused: the state before, as after each plan; or with the command whose reply couldn't be made;
+  -- or with the first rows of an import, or all that it did, where its report couldn't be made
   abbrev pub StandsShort : KeeperValue S → ActState → Method → Option Route → List ℕ → Type 0
   StandsShort new b method None body = ⊥
   StandsShort new b methods.Get (Some route) body = Ties g new b
@@ -73,17 +73,19 @@ module _ {S : Type 0} (g : Ghosts S) where
   StandsShort new b methods.Post (Some routes.Import) body =
       ((added : ℕ) × (again : ℕ) × HoldsFirst g new b (body_rows body) added again)
       ⊎ ((i : Import) × Imports b (rows_of body) i × Ties g new i.state)
+  StandsShort new b methods.Post (Some routes.Plan) body = Ties g new b
   StandsShort new b methods.Post (Some (routes.Command number)) body = ⊥
   StandsShort new b methods.Post (Some (routes.View view)) body = ⊥
 
   -- what a fault of the store leaves, and what a crash then leaves of it: the state as it was; or with the command; or with the
-  -- first rows of an import, and perhaps the next
+  -- first rows of an import, and perhaps the next; a plan has no such fault
   abbrev pub StandsLost : KeeperValue S → ActState → Method → Option Route → List ℕ → Type 0
   StandsLost new b method None body = ⊥
   StandsLost new b methods.Get (Some route) body = Stores g new b × (new.book ≡ None)
   StandsLost new b methods.Post (Some routes.Commands) body =
       (x : Referenced) × SaysCommand body x × StoresEither g new b (act b x) × (new.book ≡ None)
   StandsLost new b methods.Post (Some routes.Import) body = (added : ℕ) × (again : ℕ) × LosesNext g new b (body_rows body) added again
+  StandsLost new b methods.Post (Some routes.Plan) body = ⊥
   StandsLost new b methods.Post (Some (routes.Command number)) body = ⊥
   StandsLost new b methods.Post (Some (routes.View view)) body = ⊥
 

@@ -3,9 +3,12 @@ use Rattle.std.specs.Prelude.{◌≡◌, ℕ, Bool, List, [], map, Option, Some,
 use Rattle.ob_base.specs.declared.stop.Refusal.{Refusal}
 use Rattle.ob_sheet.specs.declared.Entry.{Entry}
 use Rattle.ob_sheet.specs.Order.{entry_of}
+use Rattle.ob_json.specs.Plans.{Forecast, forecast_text}
 use Rattle.ob_command.specs.declared.command.Command.{Command}
 use Rattle.ob_state.specs.State.{BookState}
 use Rattle.ob_book.specs.Acts.{ActState, Referenced, Reply, act, answer}
+use Rattle.ob_book.specs.Forecasts.{plan_of}
+use Rattle.ob_book.specs.Supplies.{supply_text_of}
 use Rattle.ob_book.specs.Views.{annual_table_of_book, indices_text_of_book, totals_of_book}
 use Rattle.ob_store.specs.Acting.{under}
 use Rattle.ob_store.specs.Replying.{kept_reply}
@@ -15,7 +18,7 @@ use Rattle.ob_requests.specs.Message.{Message, path_of}
 use Rattle.ob_requests.specs.declared.framing.Method.{Method}
 use Rattle.ob_requests.specs.declared.framing.Method.TheVariants as methods
 use Rattle.ob_replies.specs.Bodies.{accepted_text, entry_text, refused_text, report_text}
-use Rattle.ob_replies.specs.JsonCommands.{IsJsonCommand}
+use Rattle.ob_replies.specs.JsonCommands.{IsJsonCommand, IsJsonPlan}
 use Rattle.ob_replies.specs.Reply.{reply_text}
 use Rattle.ob_replies.specs.Status.{refusal_status, report_status}
 use Rattle.ob_replies.specs.declared.reply.MediaType.{MediaType}
@@ -75,6 +78,7 @@ view_text b views.Totals = Some (totals_of_book b)
 view_text b views.Indices = Some (indices_text_of_book b)
 view_text b views.Table = Some (annual_table_of_book b)
 view_text b (views.Entry number) = option_map (shown_entry b) (entry_of b.entries number)
+view_text b (views.Supply second) = supply_text_of b second
 
 -- its type
 abbrev pub media_of : View → MediaType
@@ -82,11 +86,13 @@ media_of views.Totals = types.Json
 media_of views.Indices = types.Json
 media_of views.Table = types.PlainText
 media_of (views.Entry number) = types.Json
+media_of (views.Supply second) = types.Json
 
 -- the answer to a GET of a route
 abbrev pub got : ActState → Route → Answer
 got b routes.Commands = empty (statuses.MethodNotAllowed allows.Post)
 got b routes.Import = empty (statuses.MethodNotAllowed allows.Post)
+got b routes.Plan = empty (statuses.MethodNotAllowed allows.Post)
 got b (routes.Command number) = found types.Json (option_map reply_body (kept_reply b number))
 got b (routes.View view) = found (media_of view) (view_text b.book view)
 
@@ -119,10 +125,25 @@ ImportAnswers b body a c = (i : Import) × Imports b (rows_of body) i × (a ≡ 
 abbrev pub Stays : ActState → Answer → Answer → ActState → Type 0
 Stays b same a c = (a ≡ same) × (c ≡ b)
 
+-- the answer to a plan, by its refusal or what the command would do
+abbrev pub planned : Result Forecast Refusal → Answer
+planned (Ok forecast) = found types.Json (Some (forecast_text forecast))
+planned (Err refusal) = refused refusal
+
+-- the answer to what a body says of a plan
+abbrev pub plan_answer : BookState → Result Command Refusal → Answer
+plan_answer b (Ok command) = planned (plan_of b command)
+plan_answer b (Err refusal) = refused refusal
+
+-- this is the answer to a body that says which command is to be planned
+abbrev pub IsPlanAnswer : BookState → List ℕ → Answer → Type 0
+IsPlanAnswer b body a = (said : Result Command Refusal) × IsJsonPlan body said × (a ≡ plan_answer b said)
+
 -- the answer to a POST to a route, and the state after it
 abbrev pub PostAnswers : ActState → Route → List ℕ → Answer → ActState → Type 0
 PostAnswers b routes.Commands body a c = CommandAnswers b body a c
 PostAnswers b routes.Import body a c = ImportAnswers b body a c
+PostAnswers b routes.Plan body a c = IsPlanAnswer b.book body a × (c ≡ b)
 PostAnswers b (routes.Command number) body a c = Stays b (empty (statuses.MethodNotAllowed allows.Get)) a c
 PostAnswers b (routes.View view) body a c = Stays b (empty (statuses.MethodNotAllowed allows.Get)) a c
 
@@ -141,16 +162,22 @@ abbrev pub bookless_at : Method → Option Route → Option Answer
 bookless_at method None = Some (empty statuses.NotFound)
 bookless_at methods.Get (Some routes.Commands) = Some (empty (statuses.MethodNotAllowed allows.Post))
 bookless_at methods.Get (Some routes.Import) = Some (empty (statuses.MethodNotAllowed allows.Post))
+bookless_at methods.Get (Some routes.Plan) = Some (empty (statuses.MethodNotAllowed allows.Post))
 bookless_at methods.Get (Some (routes.Command number)) = None
 bookless_at methods.Get (Some (routes.View view)) = None
 bookless_at methods.Post (Some routes.Commands) = None
 bookless_at methods.Post (Some routes.Import) = None
+bookless_at methods.Post (Some routes.Plan) = None
 bookless_at methods.Post (Some (routes.Command number)) = Some (empty (statuses.MethodNotAllowed allows.Get))
 bookless_at methods.Post (Some (routes.View view)) = Some (empty (statuses.MethodNotAllowed allows.Get))
 
 -- the same of a request
 abbrev pub bookless : Message → Option Answer
 bookless m = bookless_at m.method (route_of (path_of m.target))
+
+-- the request asks for a plan
+abbrev pub AsksPlan : Message → Type 0
+AsksPlan m = (m.method ≡ methods.Post) × (route_of (path_of m.target) ≡ Some routes.Plan)
 
 -- a request is answered one thing, which leaves one state
 abbrev pub RequestsAreAnsweredOneThing : Type 0

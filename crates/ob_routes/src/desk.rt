@@ -2,9 +2,10 @@
 ghost use Rattle.std.specs.Prelude.{◌≡◌, ◌↔◌, Some, None, Err, IsSome, IfSome, IfErr};
 ghost use Rattle.ob_store.specs.Calls.{IfHeld, WasClean};
 ghost use Rattle.ob_requests.specs.Reading.{message_of};
-ghost use Rattle.ob_routes.specs.Answers.{bookless, bookless_at, got};
+ghost use Rattle.ob_routes.specs.Answers.{AsksPlan, bookless, bookless_at, got};
 ghost use Rattle.ob_routes.specs.Answering.{Answered, Gives, IsAnswerFault, IsReplyOf, RouteAnswered, Serves, Unopened};
 
+use crate::plan::post_plan;
 use crate::post::{post_command, post_import};
 use crate::reply::{ReplyText, bare_reply};
 use crate::routes::{Route, Routes};
@@ -16,10 +17,10 @@ use ob_store::{Alter, Keeper};
 use ob_sweep::Timeline;
 use std::alloc::Global;
 
-/// Answers a request from a keeper's book: applies it if it is a POST, and returns the bytes of the
-/// reply. `closes` decides whether the reply states that the stream ends after it. A path without a
-/// route is answered 404, and a method that the route doesn't take 405, whatever the keeper and the
-/// memory.
+/// Answers a request from a keeper's book: applies the commands that it posts, and returns the bytes
+/// of the reply. `closes` decides whether the reply states that the stream ends after it. A path
+/// without a route is answered 404, and a method that the route doesn't take 405, whatever the
+/// keeper and the memory. A plan leaves the keeper as it is.
 ///
 /// # Errors
 ///
@@ -42,6 +43,7 @@ pub fn answer<S: Alter, T: Timeline>(
     ensures clean { WasClean S.Store keeper.old keeper.new }
     ensures answered { IfHeld S.Store keeper.old keeper.new
         (λ b. Answered S.Store keeper.new b (message_of request.now) closes result) }
+    ensures plan { AsksPlan (message_of request.now) → keeper.new ≡ keeper.old }
 {
     let route = routes.route_of(request.path());
     answer_route(alloc, keeper, request.method, route, &request.body, closes)
@@ -56,9 +58,10 @@ fn answer_route<S: Alter, T: Timeline>(
     body: &[u8],
     closes: bool,
 ) -> Result<ReplyText, Fault>
-    ensures { Serves S.Store keeper.old keeper.new
+    ensures serves { Serves S.Store keeper.old keeper.new
         (λ b. RouteAnswered S.Store keeper.new b method route body.now closes result)
         (bookless_at method route) closes result }
+    ensures plan { method ≡ Method.Post → route ≡ Some Route.Plan → keeper.new ≡ keeper.old }
 {
     match route {
         None => Ok(bare_reply(Status::NotFound, closes)),
@@ -85,6 +88,7 @@ fn answer_get<S: Alter, T: Timeline>(
         Route::Command(no) => show_command(alloc, keeper, no, closes),
         Route::Commands => Ok(bare_reply(Status::MethodNotAllowed(Allow::Post), closes)),
         Route::Import => Ok(bare_reply(Status::MethodNotAllowed(Allow::Post), closes)),
+        Route::Plan => Ok(bare_reply(Status::MethodNotAllowed(Allow::Post), closes)),
     }
 }
 
@@ -96,13 +100,15 @@ fn answer_post<S: Alter, T: Timeline>(
     body: &[u8],
     closes: bool,
 ) -> Result<ReplyText, Fault>
-    ensures { Serves S.Store keeper.old keeper.new
+    ensures serves { Serves S.Store keeper.old keeper.new
         (λ b. RouteAnswered S.Store keeper.new b Method.Post (Some route) body.now closes result)
         (bookless_at Method.Post (Some route)) closes result }
+    ensures plan { route ≡ Route.Plan → keeper.new ≡ keeper.old }
 {
     match route {
         Route::Commands => post_command(alloc, keeper, body, closes),
         Route::Import => post_import(alloc, keeper, body, closes),
+        Route::Plan => post_plan(alloc, keeper, body, closes),
         Route::Command(_) => Ok(bare_reply(Status::MethodNotAllowed(Allow::Get), closes)),
         Route::View(_) => Ok(bare_reply(Status::MethodNotAllowed(Allow::Get), closes)),
     }

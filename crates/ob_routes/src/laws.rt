@@ -2,7 +2,7 @@
 ghost use Rattle.ob_routes.specs.Answers.{BooklessAnswersStay, RequestsAreAnsweredOneThing};
 
 use ob_import::import_law;
-use ob_replies::json_commands_law;
+use ob_replies::{json_commands_law, json_plans_law};
 
 /// States that a request has exactly one answer, which leaves exactly one state, and that an answer
 /// that needs no book changes nothing. Does nothing at run time.
@@ -11,5 +11,6 @@ pub fn answers_law()
     ensures bookless { BooklessAnswersStay }
 {
     json_commands_law();
+    json_plans_law();
     import_law();
 }

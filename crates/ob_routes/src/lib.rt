@@ -2,12 +2,14 @@
 //!
 //! Defines the routes, the answer of each, and the bytes of its reply. Promises that a reply is
 //! that of the book, whose next state is then in the store. A fault leaves the state before the
-//! request, or the state with the command, or with the first rows of an import. Without a book
-//! nothing changes. This crate knows no stream: `ob_desk` uses it and serves the streams.
+//! request, or the state with the command, or with the first rows of an import. A plan changes
+//! nothing, and nor does any request without a book. This crate knows no stream: `ob_desk` uses it
+//! and serves the streams.
 #![tactic(auto)]
 
 mod desk;
 mod laws;
+mod plan;
 mod post;
 mod reply;
 mod routes;

@@ -54,6 +54,7 @@ fn view_text<T: Timeline>(
         View::Indices => Ok(Some(book.indices_text()?)),
         View::Table => Ok(Some(book.annual_text()?)),
         View::Entry(no) => entry_shown(alloc, book, no),
+        View::Supply(second) => book.supply_text(second),
     }
 }
 

@@ -2,7 +2,8 @@ use Rattle.ob_routes.proofs.desk.answer.Goals as goal
 
 pub returns : goal.returns
 returns g c =
-    let served = rw (c.route_of-route.ensures, c.path.ensures, c.deref.ensures.value) at c.answer_route.ensures in
+    let answered = rw (c.route_of-route.ensures, c.path.ensures, c.deref.ensures.value) at c.answer_route.ensures in
+    let served = answered.serves in
     record {
       constant = served.constant;
       unopened = served.unopened;
@@ -10,4 +11,5 @@ returns g c =
       dropped = served.dropped;
       clean = served.clean;
       answered = served.answered;
+      plan = λ asks. answered.plan asks.0 asks.1;
     }

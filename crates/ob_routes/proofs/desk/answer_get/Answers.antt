@@ -20,3 +20,9 @@ returns-in-Import g c =
     rw c.in-Import.is
     (serves_plain g.S.Store c.args.keeper.now _ (empty (statuses.MethodNotAllowed allows.Post)) c.args.closes c.bare_reply-in-Import.result c.bare_reply-in-Import.ensures
     (λ b ties. (c.bare_reply-in-Import.ensures, ties)))
+
+pub returns-in-Plan : goal.returns-in-Plan
+returns-in-Plan g c =
+    rw c.in-Plan.is
+    (serves_plain g.S.Store c.args.keeper.now _ (empty (statuses.MethodNotAllowed allows.Post)) c.args.closes c.bare_reply-in-Plan.result c.bare_reply-in-Plan.ensures
+    (λ b ties. (c.bare_reply-in-Plan.ensures, ties)))

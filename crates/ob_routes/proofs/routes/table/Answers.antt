@@ -11,4 +11,6 @@ returns c =
     let f = rw e.1 at c.in_ok-insert-5.ensures in
     let h = rw f.1 at c.in_ok-insert-6.ensures in
     let i = rw h.1 at c.in_ok-insert-7.ensures in
-    i.1
+    let j = rw i.1 at c.in_ok-insert-8.ensures in
+    let k = rw j.1 at c.in_ok-insert-9.ensures in
+    k.1
