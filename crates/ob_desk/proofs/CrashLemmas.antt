@@ -40,6 +40,7 @@ answers-act b methods.Post (Some routes.Commands) body a c (Ok said, says, (is, 
 answers-act b methods.Post (Some routes.Commands) body a c (Err refusal, says, (is, same)) = ([], same)
 answers-act b methods.Post (Some routes.Import) body a c (i, imports, is, same) =
     let so = imports-act b (after_header (rows_of body)) i imports in (so.0, same ∙ so.1)
+answers-act b methods.Post (Some routes.Plan) body a c (is, same) = ([], same)
 answers-act b methods.Post (Some (routes.Command number)) body a c (is, same) = ([], same)
 answers-act b methods.Post (Some (routes.View view)) body a c (is, same) = ([], same)
 
@@ -85,6 +86,7 @@ module _ {S : Type 0} (g : Ghosts S) where
     | inl (added, again, (c, later, begins, (ties, some))) ↦ (begins.2.commands, subst (Ties g new) begins.2.state ties)
     | inr (i, imports, ties) ↦ let so = imports-act b (after_header (rows_of body)) i imports in (so.0, subst (Ties g new) so.1 ties)
   ]
+  short-acts new b methods.Post (Some routes.Plan) body ties = ([], ties)
   short-acts new b methods.Post (Some (routes.Command number)) body h = absurd h
   short-acts new b methods.Post (Some (routes.View view)) body h = absurd h
 
@@ -108,6 +110,7 @@ module _ {S : Type 0} (g : Ghosts S) where
   lost-left new b methods.Post (Some routes.Commands) body (x, says, keeps, none) = ([], inr (x, keeps))
   lost-left new b methods.Post (Some routes.Import) body (added, again, (c, later, a, begins, next, keeps, none)) =
       (begins.2.commands, subst (KeepsInWork g new) begins.2.state (inr (a, keeps)))
+  lost-left new b methods.Post (Some routes.Plan) body h = absurd h
   lost-left new b methods.Post (Some (routes.Command number)) body h = absurd h
   lost-left new b methods.Post (Some (routes.View view)) body h = absurd h
 
