@@ -1,9 +1,10 @@
 //! A desk (the book's HTTP server) over a store in memory, its answers to streams, and the trials
 //! that use it.
 use crate::log::Log;
-use crate::streams::{Sink, Source, WHOLE, Way};
+use crate::streams::{WHOLE, Ways};
 use ob_base::Fault;
 use ob_desk::{Listener, Unserved, run_serve, serve_stream};
+use ob_harness::{Sink, Source};
 use ob_requests::Request;
 use ob_routes::{ReplyText, Routes, answer};
 use ob_store::Keeper;
@@ -120,9 +121,15 @@ impl<S: Alter, T: Timeline> Desk for Keeper<S, T> {
     }
 }
 
+// Serves a stream of these bytes in this way.
+fn hears<D: Desk>(alloc: Global, desk: &mut D, text: &[u8], way: &Ways) -> Heard {
+    let sink = Sink::new(alloc, way.room, way.writes);
+    desk.hears(alloc, Source::new(text, way.reads), sink)
+}
+
 /// Serves a stream of these bytes.
 pub fn told<D: Desk>(alloc: Global, desk: &mut D, text: &[u8]) -> Heard {
-    desk.hears(alloc, Source::new(text, &WHOLE), Sink::new(alloc, &WHOLE))
+    hears(alloc, desk, text, &WHOLE)
 }
 
 /// A stream and its way; the expected end, written bytes and number of commands that the book then
@@ -130,7 +137,7 @@ pub fn told<D: Desk>(alloc: Global, desk: &mut D, text: &[u8]) -> Heard {
 #[derive(Drop)]
 pub struct Stream<'b> {
     pub text: &'b [u8],
-    pub way: Way,
+    pub way: Ways,
     pub end: Result<u32, Fault>,
     pub written: &'b [u8],
     pub commands: Option<u32>,
@@ -144,15 +151,17 @@ pub fn ends_so<D: Desk>(
     no: usize,
     stream: &Stream<'_>,
 ) {
-    let source = Source::new(stream.text, &stream.way);
-    let heard = desk.hears(alloc, source, Sink::new(alloc, &stream.way));
+    let heard = hears(alloc, desk, stream.text, &stream.way);
     assert!(rt; heard.is(stream.end, stream.written), "stream {no}");
     assert!(rt; desk.commands() == stream.commands, "stream {no}");
 }
 
+/// How a trial ends; the test itself may be refused memory.
+pub type Tried = Result<(), AllocError>;
+
 /// A trial of a desk.
 pub trait Trial {
-    fn run<A: Abort, D: Desk>(&self, rt: &A, alloc: Global, desk: &mut D) -> Result<(), AllocError>;
+    fn run<A: Abort, D: Desk>(&self, rt: &A, alloc: Global, desk: &mut D) -> Tried;
 }
 
 /// Runs a trial with a desk over a new book.

@@ -1,9 +1,10 @@
 //! Tests of the worked exchange: whole, in pieces, cut, and with readers and writers that fail.
-use crate::desk::{Desk, Stream, Trial, ends_so, over_a_book, told};
+use crate::desk::{Desk, Stream, Trial, Tried, ends_so, over_a_book, told};
 use crate::script::{Ask, Reply, Row, are_answered};
-use crate::streams::{WHOLE, Way};
-use crate::texts::{FIRST, STORM, digits, joined, json, post};
+use crate::streams::{WHOLE, Ways, pieces};
+use crate::texts::{FIRST, STORM, json, post};
 use ob_base::Fault;
+use ob_harness::{FULL, JOLTING, Way};
 use std::alloc::{AllocError, Global};
 use std::io::ErrorKind;
 use std::process::Abort;
@@ -16,12 +17,7 @@ pub struct Streams<'r> {
 }
 
 impl Trial for Streams<'_> {
-    fn run<A: Abort, D: Desk>(
-        &self,
-        rt: &A,
-        alloc: Global,
-        desk: &mut D,
-    ) -> Result<(), AllocError> {
+    fn run<A: Abort, D: Desk>(&self, rt: &A, alloc: Global, desk: &mut D) -> Tried {
         let mut no = 0usize;
         for stream in self.rows {
             no = no.saturating_add(1);
@@ -33,7 +29,7 @@ impl Trial for Streams<'_> {
 }
 
 // The exchange in a way.
-fn exchange(way: Way) -> Stream<'static> {
+fn exchange(way: Ways) -> Stream<'static> {
     Stream {
         text: STORM,
         way,
@@ -43,26 +39,19 @@ fn exchange(way: Way) -> Stream<'static> {
     }
 }
 
-#[test]
-fn whole_and_in_pieces(rt: HostRuntime) -> Result<(), AllocError> {
-    for step in [1, 2, 64, 115, 4_096] {
-        let rows = &[exchange(Way { step, ..WHOLE })];
-        over_a_book(&rt, rt.alloc(), &Streams { rows, commands: 1 })?;
-    }
-    Ok(())
-}
-
 // Byte by byte; the reader and the writer are interrupted before each byte.
-const JOLTED: Way = Way {
-    step: 1,
-    reads: 1,
-    piece: 1,
-    writes: 1,
+const JOLTED: Ways = Ways {
+    reads: JOLTING,
+    writes: JOLTING,
     ..WHOLE
 };
 
 #[test]
-fn interrupted_before_each_piece(rt: HostRuntime) -> Result<(), AllocError> {
+fn whole_and_in_pieces(rt: HostRuntime) -> Result<(), AllocError> {
+    for step in [1, 2, 64, 115, 4_096] {
+        let rows = &[exchange(pieces(step))];
+        over_a_book(&rt, rt.alloc(), &Streams { rows, commands: 1 })?;
+    }
     let rows = &[exchange(JOLTED)];
     over_a_book(&rt, rt.alloc(), &Streams { rows, commands: 1 })
 }
@@ -86,17 +75,12 @@ fn twice(rt: HostRuntime) -> Result<(), AllocError> {
 struct Writers;
 
 impl Trial for Writers {
-    fn run<A: Abort, D: Desk>(
-        &self,
-        rt: &A,
-        alloc: Global,
-        desk: &mut D,
-    ) -> Result<(), AllocError> {
+    fn run<A: Abort, D: Desk>(&self, rt: &A, alloc: Global, desk: &mut D) -> Tried {
         for room in 0..FIRST.len() {
-            breaks_off(rt, alloc, desk, room, false)?;
+            breaks_off(rt, alloc, desk, room, FULL)?;
         }
-        breaks_off(rt, alloc, desk, 0, true)?;
-        breaks_off(rt, alloc, desk, 40, true)?;
+        breaks_off(rt, alloc, desk, 0, ob_harness::WHOLE)?;
+        breaks_off(rt, alloc, desk, 40, ob_harness::WHOLE)?;
         assert!(rt; desk.stands_with(92));
         Ok(())
     }
@@ -109,17 +93,16 @@ fn breaks_off<D: Desk>(
     alloc: Global,
     desk: &mut D,
     room: usize,
-    stands: bool,
+    writes: Way,
 ) -> Result<(), AllocError> {
     let no = desk.commands().unwrap_or(0).saturating_add(1);
-    let number = digits(alloc, no as usize)?;
-    let request = bus(alloc, &number)?;
-    let wanted = accepted(alloc, &number)?;
+    let request = bus(alloc, no)?;
+    let wanted = accepted(alloc, no)?;
     let broken = Stream {
         text: &request,
-        way: Way {
+        way: Ways {
             room,
-            stands,
+            writes,
             ..WHOLE
         },
         end: Err(Fault::Output),
@@ -127,36 +110,21 @@ fn breaks_off<D: Desk>(
         commands: Some(no),
     };
     ends_so(rt, alloc, desk, room, &broken);
-    let again = Stream {
-        text: &request,
-        way: WHOLE,
-        end: Ok(1),
-        written: &wanted,
-        commands: Some(no),
-    };
-    ends_so(rt, alloc, desk, room, &again);
+    assert!(rt; told(alloc, desk, &request).is(Ok(1), &wanted));
+    assert!(rt; desk.commands() == Some(no));
     Ok(())
 }
 
 // A request that adds the bus of a number.
-fn bus(alloc: Global, no: &str) -> Result<Vec<u8>, AllocError> {
-    let body = joined(
-        alloc,
-        &[
-            "{\"kind\":\"bus\",\"ref\":\"R",
-            no,
-            "\",\"f1\":\"B",
-            no,
-            "\"}",
-        ],
-    )?;
-    post(alloc, "/commands", &body)
+fn bus(alloc: Global, no: u32) -> Result<Vec<u8>, AllocError> {
+    let body = format!(in alloc; "{{\"kind\":\"bus\",\"ref\":\"R{no}\",\"f1\":\"B{no}\"}}")?;
+    post(alloc, "/commands", body.as_str())
 }
 
 // The reply to the command of a number that moves nothing.
-fn accepted(alloc: Global, no: &str) -> Result<Vec<u8>, AllocError> {
-    let body = joined(alloc, &["{\"moved\":[],\"no\":", no, "}"])?;
-    json(alloc, "200 OK", &body)
+fn accepted(alloc: Global, no: u32) -> Result<Vec<u8>, AllocError> {
+    let body = format!(in alloc; "{{\"moved\":[],\"no\":{no}}}")?;
+    json(alloc, "200 OK", body.as_str())
 }
 
 #[test]
@@ -201,17 +169,12 @@ fn replies(whole: u32) -> &'static [u8] {
 struct Fronts {
     first: usize,
     last: usize,
-    way: Way,
+    way: Ways,
     commands: u32,
 }
 
 impl Trial for Fronts {
-    fn run<A: Abort, D: Desk>(
-        &self,
-        rt: &A,
-        alloc: Global,
-        desk: &mut D,
-    ) -> Result<(), AllocError> {
+    fn run<A: Abort, D: Desk>(&self, rt: &A, alloc: Global, desk: &mut D) -> Tried {
         for count in self.first..=self.last {
             let whole = whole_in(count, STORM, BOTH);
             let stream = Stream {
@@ -234,15 +197,15 @@ fn cut_anywhere(rt: HostRuntime) -> Result<(), AllocError> {
     let fronts = Fronts {
         first: 1,
         last: STORM.len() - 1,
-        way: Way { step: 9, ..WHOLE },
+        way: pieces(9),
         commands: 0,
     };
     over_a_book(&rt, rt.alloc(), &fronts)
 }
 
 // All bytes at once, and then a failure.
-const FAILING: Way = Way {
-    failure: Some(ErrorKind::Other),
+const FAILING: Ways = Ways {
+    reads: FULL,
     ..WHOLE
 };
 
@@ -258,8 +221,11 @@ fn readers_that_fail(rt: HostRuntime) -> Result<(), AllocError> {
 }
 
 // All bytes at once, and then interruptions without end.
-const STUCK: Way = Way {
-    failure: Some(ErrorKind::Interrupted),
+const STUCK: Ways = Ways {
+    reads: Way {
+        end: Some(ErrorKind::Interrupted),
+        ..FULL
+    },
     ..WHOLE
 };
 

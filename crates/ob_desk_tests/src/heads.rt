@@ -1,5 +1,8 @@
 //! Tests of heads that are refused, streams that end, and the interim reply.
+use crate::desk::{Stream, over_a_book};
+use crate::exchange::Streams;
 use crate::script::{Ask, Reply, Row, are_answered};
+use crate::streams::{WHOLE, Ways};
 use crate::texts::{FIRST, LAST_NOTHING, STORM};
 use ob_base::Fault;
 use std::alloc::AllocError;
@@ -19,53 +22,38 @@ const PAYLOAD_TOO_LARGE: &'static [u8] =
 const FIELDS_TOO_LARGE: &'static [u8] =
     b"HTTP/1.1 431 Request Header Fields Too Large\r\nContent-Length: 0\r\nConnection: close\r\n\r\n";
 
-// Requests that are refused because of their heads, which ends the stream: one for each status. The
-// other heads are those of `requests/heads.rt`.
-const REFUSED: &[Row] = &[
-    (
-        Ask::Last(b"GET /totals HTTP/1.1\r\n\r\n"),
-        Ok(1),
-        Reply::Text(BAD_REQUEST),
-    ),
-    (
-        Ask::Last(
-            b"POST /commands HTTP/1.1\r\nHost: a\r\nTransfer-Encoding: chunked\r\n\r\n0\r\n\r\n",
-        ),
-        Ok(1),
-        Reply::Text(NOT_IMPLEMENTED),
-    ),
-    (
-        Ask::Last(b"POST /commands HTTP/1.1\r\nHost: a\r\n\r\n"),
-        Ok(1),
-        Reply::Text(LENGTH_REQUIRED),
-    ),
-    (
-        Ask::Last(b"POST /commands HTTP/1.1\r\nHost: a\r\nContent-Length: 4194305\r\n\r\n"),
-        Ok(1),
-        Reply::Text(PAYLOAD_TOO_LARGE),
-    ),
-    (
-        Ask::Last(b"DELETE /totals HTTP/1.1\r\nHost: a\r\n\r\n"),
-        Ok(1),
-        Reply::Text(NOT_IMPLEMENTED),
-    ),
-];
-
-#[test]
-fn heads_that_are_refused(rt: HostRuntime) -> Result<(), AllocError> {
-    are_answered(&rt, rt.alloc(), REFUSED, 0)
+// A request after which the stream ends, although another one follows; and its reply.
+fn last(request: &'static [u8], reply: &'static [u8]) -> Row {
+    (Ask::Last(request), Ok(1), Reply::Text(reply))
 }
 
-// A request line whose first 16,384 bytes have no end.
-const BOUNDS: &[Row] = &[(
-    Ask::Many((b"GET /", b"a", 16_379, b"")),
-    Ok(1),
-    Reply::Text(FIELDS_TOO_LARGE),
-)];
-
+// Requests that are refused because of their heads, which ends the stream: one for each status, the
+// last with a line whose first 16,384 bytes have no end. Other heads are those of
+// `requests/heads.rt`.
 #[test]
-fn a_head_at_the_bounds(rt: HostRuntime) -> Result<(), AllocError> {
-    are_answered(&rt, rt.alloc(), BOUNDS, 0)
+fn heads_that_are_refused(rt: HostRuntime) -> Result<(), AllocError> {
+    let chunked =
+        b"POST /commands HTTP/1.1\r\nHost: a\r\nTransfer-Encoding: chunked\r\n\r\n0\r\n\r\n";
+    let large = b"POST /commands HTTP/1.1\r\nHost: a\r\nContent-Length: 4194305\r\n\r\n";
+    let rows = &[
+        last(b"GET /totals HTTP/1.1\r\n\r\n", BAD_REQUEST),
+        last(chunked, NOT_IMPLEMENTED),
+        last(
+            b"POST /commands HTTP/1.1\r\nHost: a\r\n\r\n",
+            LENGTH_REQUIRED,
+        ),
+        last(large, PAYLOAD_TOO_LARGE),
+        last(
+            b"DELETE /totals HTTP/1.1\r\nHost: a\r\n\r\n",
+            NOT_IMPLEMENTED,
+        ),
+        (
+            Ask::Many((b"GET /", b"a", 16_379, b"")),
+            Ok(1),
+            Reply::Text(FIELDS_TOO_LARGE),
+        ),
+    ];
+    are_answered(&rt, rt.alloc(), rows, 0)
 }
 
 const TOTALS: &'static [u8] = b"GET /totals HTTP/1.1\r\nHost: a\r\n\r\n";
@@ -87,23 +75,12 @@ fn a_thousand_requests(rt: HostRuntime) -> Result<(), AllocError> {
     are_answered(&rt, rt.alloc(), THOUSAND, 0)
 }
 
-// Requests after which the stream ends.
-const LAST: &[Row] = &[
-    (
-        Ask::Last(b"GET /totals HTTP/1.1\r\nHost: a\r\nConnection: close\r\n\r\n"),
-        Ok(1),
-        Reply::Text(LAST_NOTHING),
-    ),
-    (
-        Ask::Last(b"GET /totals HTTP/1.0\r\n\r\n"),
-        Ok(1),
-        Reply::Text(LAST_NOTHING),
-    ),
-];
-
 #[test]
 fn requests_that_end_the_stream(rt: HostRuntime) -> Result<(), AllocError> {
-    are_answered(&rt, rt.alloc(), LAST, 0)
+    let closing = b"GET /totals HTTP/1.1\r\nHost: a\r\nConnection: close\r\n\r\n";
+    let old = b"GET /totals HTTP/1.0\r\n\r\n";
+    let rows = &[last(closing, LAST_NOTHING), last(old, LAST_NOTHING)];
+    are_answered(&rt, rt.alloc(), rows, 0)
 }
 
 const WAITING: &'static [u8] = b"\
@@ -139,6 +116,19 @@ const WAITS: &[Row] = &[
 fn the_interim_reply(rt: HostRuntime) -> Result<(), AllocError> {
     are_answered(&rt, rt.alloc(), CUT, 0)?;
     are_answered(&rt, rt.alloc(), WAITS, 1)
+}
+
+// A writer takes all but the last byte of the interim reply.
+#[test]
+fn an_interim_reply_that_breaks_off(rt: HostRuntime) -> Result<(), AllocError> {
+    let rows = &[Stream {
+        text: WAITING,
+        way: Ways { room: 24, ..WHOLE },
+        end: Err(Fault::Output),
+        written: &CONTINUE[..24],
+        commands: Some(0),
+    }];
+    over_a_book(&rt, rt.alloc(), &Streams { rows, commands: 0 })
 }
 
 // Two requests that can't be answered with 200.

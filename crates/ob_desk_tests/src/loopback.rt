@@ -1,6 +1,6 @@
 //! Tests of streams over a socket, in one process: the client writes and hangs up or waits, and
 //! then the desk serves.
-use crate::desk::{Desk, Trial, over_a_store};
+use crate::desk::{Desk, Trial, Tried, over_a_store};
 use crate::log::Log;
 use crate::texts::LAST_NOTHING;
 use ob_base::Fault;
@@ -32,7 +32,7 @@ type Client = (&'static [u8], bool, Option<&'static [u8]>);
 // all, and how the service ends. Then the number of recorded faults, and the last one; whether a
 // client is left, whose stream can still be accepted; and the number of commands that the book then
 // has.
-#[derive(Drop)]
+#[derive(Clone, Copy)]
 struct Case {
     clients: &'static [Client],
     streams: u64,
@@ -112,12 +112,7 @@ struct Served<'h> {
 }
 
 impl Trial for Served<'_> {
-    fn run<A: Abort, D: Desk>(
-        &self,
-        rt: &A,
-        _alloc: Global,
-        desk: &mut D,
-    ) -> Result<(), AllocError> {
+    fn run<A: Abort, D: Desk>(&self, rt: &A, _alloc: Global, desk: &mut D) -> Tried {
         let well = is_served(self.host, desk, self.case).unwrap_or(false);
         assert!(rt; well && desk.commands() == self.case.commands);
         Ok(())
@@ -125,12 +120,8 @@ impl Trial for Served<'_> {
 }
 
 // Checks a case over a new book, or without one.
-fn is_well(
-    rt: &impl Abort,
-    host: &HostRuntime,
-    begins: bool,
-    case: &Case,
-) -> Result<(), AllocError> {
+fn is_well(rt: &impl Abort, host: &HostRuntime, case: &Case) -> Result<(), AllocError> {
+    let begins = case.commands.is_some();
     over_a_store(rt, host.alloc(), begins, &Served { host, case })
 }
 
@@ -149,23 +140,21 @@ const ONE: Case = Case {
 
 #[test]
 fn one_stream_over_a_socket(rt: HostRuntime) -> Result<(), AllocError> {
-    is_well(&rt, &rt, true, &ONE)
+    is_well(&rt, &rt, &ONE)
 }
 
 // A client writes the front of a request and hangs up; the next one sends it whole.
 const BEHIND_A_CUT: Case = Case {
     clients: &[(CUT, true, None), WHOLE],
     streams: 2,
-    end: Ok(()),
     faults: 1,
     last: Some(Fault::Input),
-    leaves: false,
-    commands: Some(1),
+    ..ONE
 };
 
 #[test]
 fn a_cut_stream_and_the_next(rt: HostRuntime) -> Result<(), AllocError> {
-    is_well(&rt, &rt, true, &BEHIND_A_CUT)
+    is_well(&rt, &rt, &BEHIND_A_CUT)
 }
 
 // A client that asks only for the totals of the empty book.
@@ -175,16 +164,14 @@ const ASKS: Client = (TOTALS, false, Some(LAST_NOTHING));
 const TWO_OF_THREE: Case = Case {
     clients: &[ASKS, ASKS, (TOTALS, false, None)],
     streams: 2,
-    end: Ok(()),
-    faults: 0,
-    last: None,
     leaves: true,
     commands: Some(0),
+    ..ONE
 };
 
 #[test]
 fn two_streams_of_three(rt: HostRuntime) -> Result<(), AllocError> {
-    is_well(&rt, &rt, true, &TWO_OF_THREE)
+    is_well(&rt, &rt, &TWO_OF_THREE)
 }
 
 // Without a number all clients are served, until no further stream can be accepted.
@@ -192,15 +179,13 @@ const ALL: Case = Case {
     clients: &[ASKS, ASKS, ASKS],
     streams: 0,
     end: Err(Unserved::Listener),
-    faults: 0,
-    last: None,
-    leaves: false,
     commands: Some(0),
+    ..ONE
 };
 
 #[test]
 fn all_streams(rt: HostRuntime) -> Result<(), AllocError> {
-    is_well(&rt, &rt, true, &ALL)
+    is_well(&rt, &rt, &ALL)
 }
 
 // Without a book the first request that needs one ends the service.
@@ -208,13 +193,11 @@ const WITHOUT_A_BOOK: Case = Case {
     clients: &[(LAST_STORM, false, None)],
     streams: 0,
     end: Err(Unserved::Reopen),
-    faults: 0,
-    last: None,
-    leaves: false,
     commands: None,
+    ..ONE
 };
 
 #[test]
 fn a_keeper_without_a_book(rt: HostRuntime) -> Result<(), AllocError> {
-    is_well(&rt, &rt, false, &WITHOUT_A_BOOK)
+    is_well(&rt, &rt, &WITHOUT_A_BOOK)
 }

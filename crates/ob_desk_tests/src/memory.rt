@@ -1,16 +1,17 @@
 //! Tests of the worked exchange with one allocation refused.
-use crate::desk::{Desk, Heard, Trial, over_a_book};
-use crate::streams::{Sink, Source, WHOLE};
+use crate::desk::{Desk, Heard, Trial, Tried, over_a_book};
+use crate::streams::WHOLE;
 use crate::texts::{FIRST, STORM, UNAVAILABLE};
 use ob_base::Fault;
+use ob_harness::{Sink, Source};
 use std::alloc::{AllocError, Global};
 use std::process::Abort;
 
 // Serves the exchange, with a writer that has its memory already.
 fn heard<D: Desk>(alloc: Global, desk: &mut D) -> Result<Heard, AllocError> {
-    let mut sink = Sink::new(alloc, &WHOLE);
+    let mut sink = Sink::new(alloc, WHOLE.room, WHOLE.writes);
     sink.taken.reserve(200)?;
-    Ok(desk.hears(alloc, Source::new(STORM, &WHOLE), sink))
+    Ok(desk.hears(alloc, Source::new(STORM, WHOLE.reads), sink))
 }
 
 // Answers whether a stream that a fault ends may have written this: nothing, or 503.
@@ -44,12 +45,7 @@ fn has_book<D: Desk>(desk: &mut D) -> bool {
 struct Refused;
 
 impl Trial for Refused {
-    fn run<A: Abort, D: Desk>(
-        &self,
-        rt: &A,
-        alloc: Global,
-        desk: &mut D,
-    ) -> Result<(), AllocError> {
+    fn run<A: Abort, D: Desk>(&self, rt: &A, alloc: Global, desk: &mut D) -> Tried {
         let mut count = 0u32;
         for _ in 0..3 {
             let heard = heard(alloc, desk)?;

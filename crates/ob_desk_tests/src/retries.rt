@@ -2,9 +2,10 @@
 //! all, shared by all its requests and by the reader and the writer.
 use crate::desk::{Stream, over_a_book};
 use crate::exchange::Streams;
-use crate::streams::{WHOLE, Way};
+use crate::streams::{WHOLE, Ways};
 use crate::texts::FIRST;
 use ob_base::Fault;
+use ob_harness::{FULL, Way};
 use std::alloc::AllocError;
 
 // Two causes in requests of equal length, and their replies; the second request ends the
@@ -29,11 +30,18 @@ fn interrupted(
     written: &'static [u8],
     commands: u32,
 ) -> Stream<'static> {
-    let step = BOTH.len() / 2;
+    let reads = Way {
+        step: BOTH.len() / 2,
+        jolts: reads,
+        end: None,
+    };
+    let writes = Way {
+        jolts: writes,
+        ..FULL
+    };
     Stream {
         text: BOTH,
-        way: Way {
-            step,
+        way: Ways {
             reads,
             writes,
             ..WHOLE

@@ -1,8 +1,8 @@
 //! Streams in their order, and the answer to each.
-use crate::desk::{Desk, Trial, over_a_book, over_a_store, told};
-use crate::imports::OUTAGE;
+use crate::desk::{Desk, Trial, Tried, over_a_book, over_a_store, told};
 use crate::texts::{GET_ALONE, NOT_FOUND, POST_ALONE, STORM, get, json, many, post};
 use ob_base::Fault;
+use ob_harness::texts::OUTAGE;
 use std::alloc::{AllocError, Global};
 use std::process::Abort;
 
@@ -10,6 +10,7 @@ use std::process::Abort;
 pub type Many = (&'static [u8], &'static [u8], u32, &'static [u8]);
 
 /// The bytes of a stream.
+#[derive(Clone, Copy)]
 pub enum Ask {
     /// A POST to a path, with a body.
     Post(&'static str, &'static str),
@@ -22,6 +23,7 @@ pub enum Ask {
 }
 
 /// The written bytes.
+#[derive(Clone, Copy)]
 pub enum Reply {
     /// A reply with this status and this body in JSON.
     Json(&'static str, &'static str),
@@ -66,12 +68,7 @@ fn stands<D: Desk>(desk: &mut D, commands: Option<u32>) -> bool {
 }
 
 impl Trial for Script<'_> {
-    fn run<A: Abort, D: Desk>(
-        &self,
-        rt: &A,
-        alloc: Global,
-        desk: &mut D,
-    ) -> Result<(), AllocError> {
+    fn run<A: Abort, D: Desk>(&self, rt: &A, alloc: Global, desk: &mut D) -> Tried {
         let mut no = 0usize;
         for (ask, end, reply) in self.rows {
             no = no.saturating_add(1);
@@ -99,16 +96,15 @@ pub fn are_answered(
 /// Requests on a stream each, one after the other, on the book of the outage or without a book; and
 /// the number of commands that the book then has. A line has the method, the path and the body, ` => `,
 /// the status of the reply and its body in JSON. A reply with 404 has no body, and one with 405 names
-/// the other method.
+/// the other method. With the method `*` both GET and POST are sent.
 #[derive(Drop)]
 pub struct Lines {
     lines: &'static str,
     commands: Option<u32>,
 }
 
-fn bytes_asked(alloc: Global, asked: &str) -> Result<Vec<u8>, AllocError> {
-    let (method, rest) = asked.split_once(" ").unwrap_or((asked, ""));
-    let (path, body) = rest.split_once(" ").unwrap_or((rest, ""));
+fn bytes_asked(alloc: Global, method: &str, asked: &str) -> Result<Vec<u8>, AllocError> {
+    let (path, body) = asked.split_once(" ").unwrap_or((asked, ""));
     if method == "GET" {
         get(alloc, path)
     } else {
@@ -133,21 +129,36 @@ fn bytes_wanted(alloc: Global, wanted: &str) -> Result<Vec<u8>, AllocError> {
     }
 }
 
+fn is_answered<D: Desk>(
+    rt: &impl Abort,
+    alloc: Global,
+    desk: &mut D,
+    method: &str,
+    line: &str,
+) -> Result<(), AllocError> {
+    let (asked, wanted) = line.split_once(" => ").unwrap_or((line, ""));
+    let text = bytes_asked(alloc, method, asked)?;
+    let wanted = bytes_wanted(alloc, wanted)?;
+    assert!(rt;
+        told(alloc, desk, &text).is(Ok(1), &wanted),
+        "{method} {line}"
+    );
+    Ok(())
+}
+
 impl Trial for Lines {
-    fn run<A: Abort, D: Desk>(
-        &self,
-        rt: &A,
-        alloc: Global,
-        desk: &mut D,
-    ) -> Result<(), AllocError> {
+    fn run<A: Abort, D: Desk>(&self, rt: &A, alloc: Global, desk: &mut D) -> Tried {
         if self.commands.is_some() {
             assert!(rt; told(alloc, desk, &post(alloc, "/import", OUTAGE)?).end == Ok(1));
         }
         for line in self.lines.lines() {
-            let (asked, wanted) = line.split_once(" => ").unwrap_or((line, ""));
-            let text = bytes_asked(alloc, asked)?;
-            let wanted = bytes_wanted(alloc, wanted)?;
-            assert!(rt; told(alloc, desk, &text).is(Ok(1), &wanted), "{line}");
+            let (method, rest) = line.split_once(" ").unwrap_or((line, ""));
+            if method == "*" {
+                is_answered(rt, alloc, desk, "GET", rest)?;
+                is_answered(rt, alloc, desk, "POST", rest)?;
+            } else {
+                is_answered(rt, alloc, desk, method, rest)?;
+            }
         }
         assert!(rt; stands(desk, self.commands));
         Ok(())

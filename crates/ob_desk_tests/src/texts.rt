@@ -29,39 +29,17 @@ HTTP/1.1 200 OK\r\nContent-Type: application/json\r\nContent-Length: 43\r\nConne
 pub const UNAVAILABLE: &'static [u8] =
     b"HTTP/1.1 503 Service Unavailable\r\nContent-Length: 0\r\nConnection: close\r\n\r\n";
 
-/// Texts, one after the other.
-pub fn joined(alloc: Global, parts: &[&str]) -> Result<String, AllocError> {
-    let mut text = String::new(alloc);
-    for part in parts {
-        text.push_str(part)?;
-    }
-    Ok(text)
-}
-
-/// A number in decimal digits.
-pub fn digits(alloc: Global, number: usize) -> Result<String, AllocError> {
-    format!(in alloc; "{number}")
-}
-
 /// A request without a body.
 pub fn get(alloc: Global, path: &str) -> Result<Vec<u8>, AllocError> {
-    let text = joined(alloc, &["GET ", path, " HTTP/1.1\r\nHost: a\r\n\r\n"])?;
+    let text = format!(in alloc; "GET {path} HTTP/1.1\r\nHost: a\r\n\r\n")?;
     Ok(text.into_bytes())
 }
 
 /// A request with a body.
 pub fn post(alloc: Global, path: &str, body: &str) -> Result<Vec<u8>, AllocError> {
-    let length = digits(alloc, body.len())?;
-    let text = joined(
-        alloc,
-        &[
-            "POST ",
-            path,
-            " HTTP/1.1\r\nHost: a\r\nContent-Length: ",
-            &length,
-            "\r\n\r\n",
-            body,
-        ],
+    let length = body.len();
+    let text = format!(in alloc;
+        "POST {path} HTTP/1.1\r\nHost: a\r\nContent-Length: {length}\r\n\r\n{body}"
     )?;
     Ok(text.into_bytes())
 }
@@ -84,17 +62,10 @@ pub fn request(
 
 /// A reply with a body in JSON.
 pub fn json(alloc: Global, status: &str, body: &str) -> Result<Vec<u8>, AllocError> {
-    let length = digits(alloc, body.len())?;
-    let text = joined(
-        alloc,
-        &[
-            "HTTP/1.1 ",
-            status,
-            "\r\nContent-Type: application/json\r\nContent-Length: ",
-            &length,
-            "\r\n\r\n",
-            body,
-        ],
+    let length = body.len();
+    let text = format!(in alloc;
+        "HTTP/1.1 {status}\r\nContent-Type: application/json\r\n\
+         Content-Length: {length}\r\n\r\n{body}"
     )?;
     Ok(text.into_bytes())
 }

@@ -2,10 +2,9 @@
 //! rows and of the body texts; the bounds are those of the fields.
 use jiff::civil::Date;
 use ob_command::{
-    CauseCode, CivilDate, Command, Ends, FeederNumber, Moment, NewDevice, Serial, Service,
-    bodies_law, body_text, read_body, read_row, rows_law,
+    CauseCode, CivilDate, Command, Ends, FeederNumber, Moment, Serial, Service, bodies_law,
+    body_text, read_body, read_row, rows_law,
 };
-use ob_net::Pos::Closed;
 use ob_net::{LAST_SECOND, Life, Name, Refusal, Second, Stop};
 use std::alloc::Global;
 use std::process::Abort;
@@ -46,25 +45,6 @@ fn connection() -> Option<Command> {
         customer: Serial::new(11)?,
         section: Name::read(b"S3")?,
         service: service(7, 9)?,
-    })
-}
-
-fn device() -> Option<Command> {
-    Some(Command::Device(NewDevice {
-        name: Name::read(b"X1")?,
-        ends: ends(b"BUS-A", b"S1")?,
-        normal: Closed,
-        life: Service {
-            since: Moment::new(1_704_072_200)?,
-            until: None,
-        },
-    }))
-}
-
-fn life() -> Option<Command> {
-    Some(Command::Life {
-        device: Name::read(b"T1")?,
-        life: service(0, 1_704_073_200)?,
     })
 }
 
@@ -223,18 +203,9 @@ fn no_bodies(rt: HostRuntime) {
 }
 
 #[test]
-fn commands_by_their_fields(rt: HostRuntime) -> Result<(), Fail> {
+fn a_command_by_its_fields(rt: HostRuntime) -> Result<(), Fail> {
     let command = connection().ok_or("a command")?;
     has_body(&rt, rt.alloc(), &command, b"connect 11 S3 7 9")?;
-    let command = device().ok_or("a command")?;
-    has_body(
-        &rt,
-        rt.alloc(),
-        &command,
-        b"device X1 BUS-A S1 closed 1704072200 -",
-    )?;
-    let command = life().ok_or("a command")?;
-    has_body(&rt, rt.alloc(), &command, b"life T1 0 1704073200")?;
     Ok(())
 }
 
@@ -249,39 +220,15 @@ fn seconds_of_a_service(rt: HostRuntime) -> Result<(), Fail> {
     Ok(())
 }
 
-fn cause(text: &[u8]) -> Option<u8> {
-    match CauseCode::read(text) {
-        Some(code) => Some(code.get()),
-        None => None,
-    }
-}
-
-fn feeder(text: &[u8]) -> Option<u8> {
-    match FeederNumber::read(text) {
-        Some(number) => Some(number.get()),
-        None => None,
-    }
-}
-
-fn serial(text: &[u8]) -> Option<u32> {
-    match Serial::read(text) {
-        Some(number) => Some(number.get()),
-        None => None,
-    }
-}
-
 #[test]
-fn numbers(rt: HostRuntime) {
-    assert!(rt; cause(b"63") == Some(63) && CauseCode::new(64).is_none());
-    assert!(rt; feeder(b"007") == Some(7) && FeederNumber::new(0).is_none());
-    assert!(rt; serial(b"4294967295") == Some(4_294_967_295) && Serial::new(0).is_none());
-}
-
-fn second(text: &[u8]) -> Option<Second> {
-    match Moment::read(text) {
-        Some(moment) => Some(moment.second()),
-        None => None,
-    }
+fn numbers(rt: HostRuntime) -> Result<(), Fail> {
+    let cause = CauseCode::read(b"63").ok_or("a cause")?;
+    assert!(rt; cause.get() == 63 && CauseCode::new(64).is_none());
+    let feeder = FeederNumber::read(b"007").ok_or("a feeder")?;
+    assert!(rt; feeder.get() == 7 && FeederNumber::new(0).is_none());
+    let serial = Serial::read(b"4294967295").ok_or("a number")?;
+    assert!(rt; serial.get() == 4_294_967_295 && Serial::new(0).is_none());
+    Ok(())
 }
 
 fn civil_date(year: i16, month: i8, day: i8) -> Option<CivilDate> {
@@ -292,22 +239,20 @@ fn civil_date(year: i16, month: i8, day: i8) -> Option<CivilDate> {
 }
 
 #[test]
-fn moments_and_dates(rt: HostRuntime) {
-    assert!(rt; second(b"1970-01-01T00:00:07Z") == Some(7));
-    assert!(rt; Moment::new(LAST_SECOND + 1).is_none());
+fn moments_and_dates(rt: HostRuntime) -> Result<(), Fail> {
+    let moment = Moment::read(b"1970-01-01T00:00:07Z").ok_or("a moment")?;
+    assert!(rt; moment.second() == 7 && Moment::new(LAST_SECOND + 1).is_none());
     let date = civil_date(2024, 2, 29);
     assert!(rt; date.is_some() && date == CivilDate::read(b"2024-02-29"));
     assert!(rt; civil_date(-1, 12, 31).is_none());
+    Ok(())
 }
 
 #[test]
-fn ends_of_a_device(rt: HostRuntime) {
+fn ends_of_a_device(rt: HostRuntime) -> Result<(), Fail> {
     assert!(rt; ends(b"S1", b"S1").is_none());
-    match ends(b"S1", b"S2") {
-        Some(ends) => {
-            assert!(rt; ends.a().bytes() == b"S1".as_slice());
-            assert!(rt; ends.b().bytes() == b"S2".as_slice());
-        }
-        None => assert!(rt; false),
-    }
+    let ends = ends(b"S1", b"S2").ok_or("two ends")?;
+    assert!(rt; ends.a().bytes() == b"S1".as_slice());
+    assert!(rt; ends.b().bytes() == b"S2".as_slice());
+    Ok(())
 }

@@ -22,10 +22,6 @@ mod networks;
 #[cfg(test)]
 mod periods;
 #[cfg(test)]
-mod sink;
-#[cfg(test)]
-mod source;
-#[cfg(test)]
 mod stops;
 #[cfg(test)]
 mod streams;

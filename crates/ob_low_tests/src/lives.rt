@@ -1,6 +1,6 @@
 //! Tests of the in-service intervals (lives) of devices: their seconds, the life that a network
 //! keeps for each device, and the devices that are open outside their lives.
-use crate::networks::{add_all, answers};
+use crate::networks::add_all;
 use ob_net::Pos::{Closed, Opened};
 use ob_net::{Life, Net, Pos, Refusal, Second};
 use std::alloc::Global;
@@ -23,22 +23,7 @@ fn a_life(rt: HostRuntime) {
     assert!(rt; endless.next_turn(0, 30) == 10 && endless.next_turn(10, 30) == 30);
 }
 
-// The lives of three parallel devices.
-const LIVES: [Life; 3] = [
-    Life {
-        since: 0,
-        until: None,
-    },
-    Life {
-        since: 10,
-        until: Some(20),
-    },
-    Life {
-        since: 15,
-        until: None,
-    },
-];
-
+// Three parallel devices.
 const THREE: &'static str = "\
 bus BUS-A
 device D1 GRID BUS-A closed 0 -
@@ -71,25 +56,9 @@ fn have_lives(rt: &impl Abort, net: &Net, lives: &[Life; 3]) {
 #[test]
 fn each_device_has_its_life(rt: HostRuntime) -> Result<(), Fail> {
     let net = three(&rt, rt.alloc())?;
-    have_lives(&rt, &net, &LIVES);
+    let lives = [life(0, None), life(10, Some(20)), life(15, None)];
+    have_lives(&rt, &net, &lives);
     Ok(())
-}
-
-const BAD: &'static str = "\
-device D1 GRID BUS-Z closed 5 5 => UnknownName
-device D1 BUS-Z GRID closed 5 5 => UnknownName
-device D1 GRID BUS-A closed 5 5 => NameTaken
-device D9 GRID BUS-A closed 5 5 => BadLife
-device D9 GRID BUS-A closed 5 4 => BadLife
-device D9 GRID BUS-A closed 0 0 => BadLife
-";
-
-#[test]
-fn a_bad_life_behind_names(rt: HostRuntime) -> Result<(), Fail> {
-    let mut net = three(&rt, rt.alloc())?;
-    answers(&rt, &mut net, BAD)?;
-    have_lives(&rt, &net, &LIVES);
-    add_all(&rt, &mut net, "device D9 GRID BUS-A closed 5 6")
 }
 
 // A device, its new life, the expected answer, and the lives of all three devices after it.
@@ -106,18 +75,19 @@ fn set_lives(rt: &impl Abort, net: &mut Net, rows: &[LifeRow]) {
 #[test]
 fn a_life_is_set_anew(rt: HostRuntime) -> Result<(), Fail> {
     let mut net = three(&rt, rt.alloc())?;
+    let (first, second, third) = (life(0, None), life(10, Some(20)), life(15, None));
     let (short, late) = (life(3, Some(4)), life(7, None));
     let bad = Err(Refusal::BadLife);
     set_lives(
         &rt,
         &mut net,
         &[
-            (1, short, Ok(()), [LIVES[0], short, LIVES[2]]),
-            (1, life(9, Some(9)), bad, [LIVES[0], short, LIVES[2]]),
-            (0, life(9, Some(8)), bad, [LIVES[0], short, LIVES[2]]),
-            (0, late, Ok(()), [late, short, LIVES[2]]),
+            (1, short, Ok(()), [first, short, third]),
+            (1, life(9, Some(9)), bad, [first, short, third]),
+            (0, life(9, Some(8)), bad, [first, short, third]),
+            (0, late, Ok(()), [late, short, third]),
             (2, short, Ok(()), [late, short, short]),
-            (1, LIVES[1], Ok(()), [late, LIVES[1], short]),
+            (1, second, Ok(()), [late, second, short]),
         ],
     );
     give_life(&rt, &mut net, 1, short);

@@ -1,5 +1,5 @@
-//! Tests of the network: its parts by name and by number, the nodes that are supplied, and its
-//! limits.
+//! Tests of the network: its parts by name and by number, and the nodes that are supplied. Its
+//! limits are tested in `ob_total_tests` and `ob_book_tests`.
 ghost use Rattle.std.specs.Prelude.{◌≡◌, ◌≤◌, []};
 
 use ob_command::{Command, NewDevice, read_body};
@@ -254,9 +254,9 @@ fn supply(rt: HostRuntime) -> Result<(), Fail> {
     Ok(())
 }
 
-/// Adds the parts that body texts name, one a line; a line may end with ` => ` and the name of the
-/// expected refusal.
-pub fn answers(rt: &impl Abort, net: &mut Net, lines: &str) -> Result<(), Fail> {
+// Adds the parts that body texts name, one a line; a line may end with ` => ` and the name of the
+// expected refusal.
+fn answers(rt: &impl Abort, net: &mut Net, lines: &str) -> Result<(), Fail> {
     for line in lines.lines() {
         let (body, wanted) = line.split_once(" => ").unwrap_or((line, ""));
         let found = match add(net, body)? {
@@ -287,49 +287,5 @@ fn names(rt: HostRuntime) -> Result<(), Fail> {
     let mut net = meshed(&rt, rt.alloc())?;
     answers(&rt, &mut net, NAMES)?;
     counts(&rt, &net, 7, 7, 0);
-    Ok(())
-}
-
-// Adds the buses N1 to N1023.
-fn fill_nodes(rt: &impl Abort, alloc: Global, net: &mut Net) -> Result<(), Fail> {
-    for number in 1..1024 {
-        let body = format!(in alloc; "bus N{number}")?;
-        add_all(rt, net, body.as_str())?;
-    }
-    Ok(())
-}
-
-// Adds the devices D0 to D2047, each from GRID to the next bus.
-fn fill_devices(rt: &impl Abort, alloc: Global, net: &mut Net) -> Result<(), Fail> {
-    for number in 0..2048 {
-        let end = number % 1023 + 1;
-        let body = format!(in alloc; "device D{number} GRID N{end} closed 0 -")?;
-        add_all(rt, net, body.as_str())?;
-    }
-    Ok(())
-}
-
-const ONE_NODE_MORE: &'static str = "\
-section ONE-MORE 1 => Full
-bus GRID => NameTaken
-";
-
-const ONE_DEVICE_MORE: &'static str = "\
-device ONE-MORE GRID N1 closed 5 5 => BadLife
-device D2047 GRID N1 closed 0 - => NameTaken
-device D2047 GRID N1024 closed 0 - => UnknownName
-";
-
-#[test]
-fn most_nodes_and_devices(rt: HostRuntime) -> Result<(), Fail> {
-    let mut net = Net::new(rt.alloc())?;
-    fill_nodes(&rt, rt.alloc(), &mut net)?;
-    assert!(rt; add(&mut net, "bus ONE-MORE")? == Some(Refusal::Full(1024)));
-    answers(&rt, &mut net, ONE_NODE_MORE)?;
-    fill_devices(&rt, rt.alloc(), &mut net)?;
-    let one_more = add(&mut net, "device ONE-MORE GRID N1 closed 0 -")?;
-    assert!(rt; one_more == Some(Refusal::Full(2048)));
-    answers(&rt, &mut net, ONE_DEVICE_MORE)?;
-    counts(&rt, &net, 1024, 2048, 0);
     Ok(())
 }

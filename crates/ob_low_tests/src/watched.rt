@@ -1,10 +1,14 @@
 //! Tests of watched readers and writers, call by call.
-use crate::sink::{Flushed, Sink, sink_of};
-use crate::source::{Interrupted, Source, failing, source_of};
+use ob_harness::{FULL, Sink, Source, WHOLE, Way};
 use ob_net::{Retries, Watched};
 use std::io;
 use std::io::{ErrorKind, Read, Write};
 use std::process::Abort;
+
+// In pieces of two bytes, and then the end, or a failure.
+const ENDING: Way = Way { step: 2, ..WHOLE };
+
+const FAILING: Way = Way { step: 2, ..FULL };
 
 // Makes reads of at most two bytes. Each row has the number of bytes read, or None for a failure,
 // and whether the reader has failed after it.
@@ -18,7 +22,7 @@ fn reads(rt: &impl Abort, reader: &mut Watched<Source<'_>>, calls: &[(Option<usi
 
 #[test]
 fn reads_that_fail(rt: HostRuntime) {
-    let mut reader = failing(b"abc", 2);
+    let mut reader = Watched::new(Source::new(b"abc", FAILING));
     reads(
         &rt,
         &mut reader,
@@ -28,7 +32,7 @@ fn reads_that_fail(rt: HostRuntime) {
 
 #[test]
 fn reads_that_are_interrupted(rt: HostRuntime) {
-    let mut reader = source_of(b"abc", 2, Interrupted::EachOther);
+    let mut reader = Watched::new(Source::new(b"abc", Way { jolts: 1, ..ENDING }));
     assert!(rt; !reader.has_failed());
     reads(&rt, &mut reader, &[(None, true), (Some(2), true)]);
     assert!(rt; reader.into_parts().0.rest == b"c".as_slice());
@@ -37,7 +41,7 @@ fn reads_that_are_interrupted(rt: HostRuntime) {
 #[test]
 fn bytes_of_a_read(rt: HostRuntime) {
     let mut buf = [0; 2];
-    let mut reader = failing(b"abc", 2);
+    let mut reader = Watched::new(Source::new(b"abc", FAILING));
     assert!(rt; reader.read(&mut buf).ok() == Some(2));
     assert!(rt; buf == *b"ab");
 }
@@ -53,7 +57,7 @@ fn writes(rt: &impl Abort, writer: &mut Watched<Sink>, calls: &[(&[u8], Option<u
 
 #[test]
 fn writes_that_take_no_byte(rt: HostRuntime) {
-    let mut writer = sink_of(rt.alloc(), 2, 2, None);
+    let mut writer = Watched::new(Sink::new(rt.alloc(), 2, ENDING));
     writes(
         &rt,
         &mut writer,
@@ -70,10 +74,30 @@ fn writes_that_take_no_byte(rt: HostRuntime) {
 
 #[test]
 fn writes_and_flushes_that_fail(rt: HostRuntime) {
-    let mut writer = sink_of(rt.alloc(), 2, 0, Some(ErrorKind::Other));
+    let mut writer = Watched::new(Sink::new(rt.alloc(), 0, FULL));
     writes(&rt, &mut writer, &[(b"a", None, true)]);
-    let mut writer = sink_of(rt.alloc(), 2, 0, Some(ErrorKind::Other));
+    let mut writer = Watched::new(Sink::new(rt.alloc(), 0, FULL));
     assert!(rt; writer.flush().is_err() && writer.has_failed());
+}
+
+// Takes all bytes; its first flush fails, and each later one succeeds.
+#[derive(Drop)]
+struct Flushed {
+    flushes: usize,
+}
+
+impl Write for Flushed {
+    fn write(&mut self, buf: &[u8]) -> io::Result<usize> {
+        Ok(buf.len())
+    }
+
+    fn flush(&mut self) -> io::Result<()> {
+        self.flushes = self.flushes.saturating_add(1);
+        if self.flushes == 1 {
+            return Err(io::Error::from(ErrorKind::Other));
+        }
+        Ok(())
+    }
 }
 
 #[test]

@@ -1,9 +1,9 @@
 //! Tests of exports of the amounts that the commands moved, and of sinks and writers that fail.
 use crate::office::Office;
 use crate::script::{A_DAY, Outcome, Step, is_told};
-use crate::sinks::{Shelf, Sink};
-use crate::sources::{FAILING, JOLTING, Way};
-use crate::texts::{CORRECTION, OUTAGE};
+use crate::sinks::Shelf;
+use ob_harness::texts::{CORRECTION, OUTAGE};
+use ob_harness::{FAILING, JOLTING, Sink, WHOLE, Way};
 use ob_net::{Fault, Stop};
 use ob_post::{Dim, Moved};
 use std::alloc::{AllocError, Global};
@@ -25,37 +25,16 @@ const EXPORT: &'static str = "cmd,dim,key,delta
 26,day,0,-1200
 ";
 
-// The numbers of rows in the tables of the outage with its correction.
-const ROWS: &[i64] = &[1, 3, 5, 5, 5, 10, 4, 0, 26, 12, 320];
-
-const EXPORTED: &[Step] = &[
-    Step::Make(A_DAY),
-    Step::Import(OUTAGE, Outcome::Took(25, 0)),
-    Step::Import(CORRECTION, Outcome::Took(1, 0)),
-    Step::Export(Ok(12), EXPORT),
-    Step::Write(JOLTING, Ok(12), EXPORT, ""),
-];
-
-#[test]
-fn an_export(rt: HostRuntime) -> Result<(), AllocError> {
-    is_told(&rt, rt.alloc(), false, EXPORTED, ROWS)
-}
-
 const OF_NOTHING: &[Step] = &[
     Step::Export(Err(Stop::Fault(Fault::Reopen)), ""),
     Step::Make(A_DAY),
     Step::Export(Ok(0), "cmd,dim,key,delta\n"),
+    Step::Rows(&[1, 1, 1, 0, 0, 0, 0, 0, 0, 0, 320]),
 ];
 
 #[test]
 fn exports_of_nothing(rt: HostRuntime) -> Result<(), AllocError> {
-    is_told(
-        &rt,
-        rt.alloc(),
-        false,
-        OF_NOTHING,
-        &[1, 1, 1, 0, 0, 0, 0, 0, 0, 0, 320],
-    )
+    is_told(&rt, rt.alloc(), OF_NOTHING)
 }
 
 // The amounts that the outage and its correction moved, each the same under cause 3, feeder 1 and
@@ -118,20 +97,6 @@ pub fn are_told<O: Office>(alloc: Global, office: &mut O) -> bool {
     office.tells(27, &mut shelf) == Ok(false) && are_first(&shelf.taken, AMOUNTS)
 }
 
-// Sinks with room for each number of amounts, from none to all twelve.
-const SINKS: &[Step] = &[
-    Step::Make(A_DAY),
-    Step::Import(OUTAGE, Outcome::Took(25, 0)),
-    Step::Import(CORRECTION, Outcome::Took(1, 0)),
-    Step::Hands,
-    Step::Replies,
-];
-
-#[test]
-fn sinks_that_fail(rt: HostRuntime) -> Result<(), AllocError> {
-    is_told(&rt, rt.alloc(), false, SINKS, ROWS)
-}
-
 /// Answers whether an export of this text to a writer with less room stops with an output fault
 /// when the writer is full.
 pub fn breaks_off<O: Office>(
@@ -159,57 +124,48 @@ pub fn always_breaks_off<O: Office>(alloc: Global, office: &mut O, way: Way, tex
 
 // A writer that is interrupted without end once it is full.
 const STUCK: Way = Way {
-    step: 1,
-    jolts: 1,
     end: Some(ErrorKind::Interrupted),
+    ..JOLTING
 };
 
-// Writers that fail after each byte in turn, one that takes no further byte, and one that is
-// interrupted without end.
-const WRITERS: &[Step] = &[
-    Step::Make(A_DAY),
-    Step::Import(OUTAGE, Outcome::Took(25, 0)),
-    Step::Import(CORRECTION, Outcome::Took(1, 0)),
-    Step::BreakAlways(FAILING, EXPORT),
-    Step::Break(JOLTING, EXPORT, 40),
-    Step::Break(STUCK, EXPORT, 40),
-];
+// The thirteen writes of the header and twelve lines may be retried 65,536 times in all.
+const TOO_OFTEN: Way = Way {
+    jolts: 5_042,
+    ..WHOLE
+};
 
-#[test]
-fn writers_that_fail(rt: HostRuntime) -> Result<(), AllocError> {
-    is_told(&rt, rt.alloc(), false, WRITERS, ROWS)
-}
+const JUST_NOT: Way = Way {
+    jolts: 5_041,
+    ..WHOLE
+};
 
 const LAST_LINE: &'static str = "26,day,0,-1200\n";
 
-// The thirteen writes of the header and twelve lines may be retried 65,536 times in all.
-const INTERRUPTED: &[Step] = &[
+// An export; sinks with room for each number of amounts; writers that fail after each byte in turn,
+// one that takes no further byte, one that is interrupted without end, and one that is interrupted
+// in each line.
+const EXPORTED: &[Step] = &[
     Step::Make(A_DAY),
     Step::Import(OUTAGE, Outcome::Took(25, 0)),
     Step::Import(CORRECTION, Outcome::Took(1, 0)),
+    Step::Export(Ok(12), EXPORT),
+    Step::Write(JOLTING, Ok(12), EXPORT, ""),
+    Step::Hands,
+    Step::Replies,
+    Step::BreakAlways(FAILING, EXPORT),
+    Step::Break(JOLTING, EXPORT, 40),
+    Step::Break(STUCK, EXPORT, 40),
     Step::Write(
-        Way {
-            step: 1_000_000,
-            jolts: 5_042,
-            end: None,
-        },
+        TOO_OFTEN,
         Err(Stop::Fault(Fault::Output)),
         EXPORT,
         LAST_LINE,
     ),
-    Step::Write(
-        Way {
-            step: 1_000_000,
-            jolts: 5_041,
-            end: None,
-        },
-        Ok(12),
-        EXPORT,
-        "",
-    ),
+    Step::Write(JUST_NOT, Ok(12), EXPORT, ""),
+    Step::Rows(&[1, 3, 5, 5, 5, 10, 4, 0, 26, 12, 320]),
 ];
 
 #[test]
-fn interrupted_in_each_line(rt: HostRuntime) -> Result<(), AllocError> {
-    is_told(&rt, rt.alloc(), false, INTERRUPTED, ROWS)
+fn exports_of_an_outage(rt: HostRuntime) -> Result<(), AllocError> {
+    is_told(&rt, rt.alloc(), EXPORTED)
 }

@@ -2,7 +2,7 @@
 //! hears of the progress, and a `Keeper` without a book.
 use crate::office::Heard;
 use crate::script::{A_DAY, Outcome, Step, is_told, is_told_both_ways};
-use crate::texts::{ONE_NAME_TWICE, OUTAGE, TWO_NAMES};
+use ob_harness::texts::{ONE_NAME_TWICE, OUTAGE, TWO_NAMES};
 use ob_net::{Fault, Refusal};
 use std::alloc::AllocError;
 
@@ -22,16 +22,12 @@ const CHANGED: &[Step] = &[
         ONE_NAME_TWICE,
         Outcome::Stopped(0, 3, 4, Refusal::RefConflict(4)),
     ),
+    Step::Rows(&[1, 2, 4, 0, 0, 0, 0, 0, 4, 0, 320]),
 ];
 
 #[test]
 fn a_row_stops_and_is_changed(rt: HostRuntime) -> Result<(), AllocError> {
-    is_told_both_ways(
-        &rt,
-        rt.alloc(),
-        CHANGED,
-        &[1, 2, 4, 0, 0, 0, 0, 0, 4, 0, 320],
-    )
+    is_told_both_ways(&rt, rt.alloc(), CHANGED)
 }
 
 const TOLD: Heard = Heard {
@@ -47,17 +43,12 @@ const HEARING: &[Step] = &[
     Step::Make(A_DAY),
     Step::Hear(ONE_NAME_TWICE, TOLD),
     Step::Hear(ONE_NAME_TWICE, TOLD),
+    Step::Rows(&[1, 2, 3, 0, 0, 0, 0, 0, 3, 0, 320]),
 ];
 
 #[test]
 fn who_listens_hears_each_row(rt: HostRuntime) -> Result<(), AllocError> {
-    is_told(
-        &rt,
-        rt.alloc(),
-        false,
-        HEARING,
-        &[1, 2, 3, 0, 0, 0, 0, 0, 3, 0, 320],
-    )
+    is_told(&rt, rt.alloc(), HEARING)
 }
 
 const WITHOUT_ROWS: &[Step] = &[
@@ -74,16 +65,12 @@ const WITHOUT_ROWS: &[Step] = &[
         "bus,R1,BUS-A,,,,,\n",
         Outcome::Stopped(0, 0, 0, Refusal::BadField(0)),
     ),
+    Step::Rows(&[1, 1, 1, 0, 0, 0, 0, 0, 0, 0, 320]),
 ];
 
 #[test]
 fn texts_without_rows(rt: HostRuntime) -> Result<(), AllocError> {
-    is_told_both_ways(
-        &rt,
-        rt.alloc(),
-        WITHOUT_ROWS,
-        &[1, 1, 1, 0, 0, 0, 0, 0, 0, 0, 320],
-    )
+    is_told_both_ways(&rt, rt.alloc(), WITHOUT_ROWS)
 }
 
 const WITHOUT_A_BOOK: &[Step] = &[
@@ -93,5 +80,5 @@ const WITHOUT_A_BOOK: &[Step] = &[
 
 #[test]
 fn without_a_book(rt: HostRuntime) -> Result<(), AllocError> {
-    is_told_both_ways(&rt, rt.alloc(), WITHOUT_A_BOOK, &[])
+    is_told_both_ways(&rt, rt.alloc(), WITHOUT_A_BOOK)
 }

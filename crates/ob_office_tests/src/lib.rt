@@ -20,10 +20,6 @@ mod script;
 #[cfg(test)]
 mod sinks;
 #[cfg(test)]
-mod sources;
-#[cfg(test)]
 mod streams;
 #[cfg(test)]
 mod tables;
-#[cfg(test)]
-mod texts;

@@ -3,8 +3,8 @@ use crate::jobs::calls::{
     Ask, Told, audits, exports, imports, lacks_export, lacks_import, lacks_table, makes, migrates,
     prints, serves,
 };
-use crate::sinks::{Shelf, Sink};
-use crate::sources::Source;
+use crate::sinks::Shelf;
+use ob_harness::{Sink, Source};
 use ob_import::{
     ImportFault, ImportReport, Progress, Work, import, import_text, import_with_progress,
 };

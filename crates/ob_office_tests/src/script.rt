@@ -2,10 +2,10 @@
 use crate::exports::{always_breaks_off, are_handed, are_told, breaks_off};
 use crate::office::{Heard, Office, Period, Report, Trial, over};
 use crate::refusals::is_refused;
-use crate::sinks::{Sink, WIDE};
-use crate::sources::{Source, WHOLE, Way};
+use crate::sinks::WIDE;
 use crate::streams::are_broken;
 use crate::tables::has_rows;
+use ob_harness::{Sink, Source, WHOLE, Way};
 use ob_import::{ImportFault, ImportReport};
 use ob_net::{Fault, Refusal, Stop};
 use sqlite::Connection;
@@ -76,6 +76,9 @@ pub enum Step {
     Hands,
     /// Checks that the stored replies have these moves.
     Replies,
+    /// As the last step, checks the numbers of rows in the tables: the period, causes, nodes,
+    /// devices, their lives, customers, entries, marked days, commands, moves, amounts.
+    Rows(&'static [i64]),
 }
 
 // Imports a text that is in memory or comes from a reader.
@@ -116,6 +119,7 @@ fn holds<O: Office>(alloc: Global, office: &mut O, by_reader: bool, step: &Step)
         Step::BreakAlways(way, text) => always_breaks_off(alloc, office, *way, text.as_bytes()),
         Step::Hands => are_handed(alloc, office),
         Step::Replies => are_told(alloc, office),
+        Step::Rows(_) => true,
     }
 }
 
@@ -160,33 +164,30 @@ impl Trial for Script<'_> {
     }
 }
 
-/// Checks steps with a `Keeper` over a store in memory, the numbers of rows that the tables then
-/// have, and that no table differs from what the commands give. The texts of the steps are in
-/// memory, or each comes from a reader.
-pub fn is_told(
+fn are_told_by(
     rt: &impl Abort,
     alloc: Global,
     by_reader: bool,
     steps: &[Step],
-    rows: &[i64],
 ) -> Result<(), AllocError> {
-    match Connection::open_in_memory(alloc) {
-        Ok(conn) => {
-            let mut conn = over(rt, alloc, conn, &mut Script { steps, by_reader });
-            has_rows(rt, alloc, &mut conn, rows);
-            Ok(())
-        }
-        Err(_) => Err(AllocError),
+    let Ok(conn) = Connection::open_in_memory(alloc) else {
+        return Err(AllocError);
+    };
+    let mut conn = over(rt, alloc, conn, &mut Script { steps, by_reader });
+    if let Some(Step::Rows(rows)) = steps.last() {
+        has_rows(rt, alloc, &mut conn, rows);
     }
+    Ok(())
+}
+
+/// Checks steps with a `Keeper` over a store in memory, and that no table then differs from what the
+/// commands give. The texts of the steps are in memory.
+pub fn is_told(rt: &impl Abort, alloc: Global, steps: &[Step]) -> Result<(), AllocError> {
+    are_told_by(rt, alloc, false, steps)
 }
 
 /// Checks steps with each text in memory, and then with each text from a reader.
-pub fn is_told_both_ways(
-    rt: &impl Abort,
-    alloc: Global,
-    steps: &[Step],
-    rows: &[i64],
-) -> Result<(), AllocError> {
-    is_told(rt, alloc, false, steps, rows)?;
-    is_told(rt, alloc, true, steps, rows)
+pub fn is_told_both_ways(rt: &impl Abort, alloc: Global, steps: &[Step]) -> Result<(), AllocError> {
+    are_told_by(rt, alloc, false, steps)?;
+    are_told_by(rt, alloc, true, steps)
 }

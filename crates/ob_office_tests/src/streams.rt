@@ -1,8 +1,8 @@
 //! Tests of imports from readers that fail or are interrupted.
 use crate::office::Office;
 use crate::script::{A_DAY, Outcome, Step, is_told};
-use crate::sources::{FAILING, JOLTING, Source, Way};
-use crate::texts::{OUTAGE, TWO_NAMES};
+use ob_harness::texts::{OUTAGE, TWO_NAMES};
+use ob_harness::{FAILING, JOLTING, Source, WHOLE, Way};
 use ob_net::Fault;
 use std::alloc::{AllocError, Global};
 use std::io::ErrorKind;
@@ -34,85 +34,55 @@ pub fn are_broken<O: Office>(alloc: Global, office: &mut O, text: &[u8]) -> bool
     true
 }
 
-const FRONTS: &[Step] = &[Step::Make(A_DAY), Step::ReadFronts(TWO_NAMES)];
+const FRONTS: &[Step] = &[
+    Step::Make(A_DAY),
+    Step::ReadFronts(TWO_NAMES),
+    Step::Rows(&[1, 2, 4, 0, 0, 0, 0, 0, 4, 0, 320]),
+];
 
 #[test]
 fn readers_that_fail(rt: HostRuntime) -> Result<(), AllocError> {
-    is_told(
-        &rt,
-        rt.alloc(),
-        false,
-        FRONTS,
-        &[1, 2, 4, 0, 0, 0, 0, 0, 4, 0, 320],
-    )
+    is_told(&rt, rt.alloc(), FRONTS)
 }
 
 // Each byte of the outage comes after an interrupted read.
 const EACH_BYTE: &[Step] = &[
     Step::Make(A_DAY),
     Step::Read(JOLTING, OUTAGE, Outcome::Took(25, 0)),
+    Step::Rows(&[1, 3, 5, 5, 5, 10, 4, 0, 25, 9, 320]),
 ];
 
 #[test]
 fn an_interrupted_reader(rt: HostRuntime) -> Result<(), AllocError> {
-    is_told(
-        &rt,
-        rt.alloc(),
-        false,
-        EACH_BYTE,
-        &[1, 3, 5, 5, 5, 10, 4, 0, 25, 9, 320],
-    )
+    is_told(&rt, rt.alloc(), EACH_BYTE)
 }
 
 const FOR_EVER: Way = Way {
-    step: 1_000_000,
-    jolts: 0,
     end: Some(ErrorKind::Interrupted),
+    ..WHOLE
 };
 
-// The whole text, and then only interrupted reads.
-const STUCK: &[Step] = &[
-    Step::Make(A_DAY),
-    Step::Read(FOR_EVER, TWO_NAMES, Outcome::Broken(4, 0, Fault::Input)),
-];
-
-#[test]
-fn a_reader_interrupted_for_ever(rt: HostRuntime) -> Result<(), AllocError> {
-    is_told(
-        &rt,
-        rt.alloc(),
-        false,
-        STUCK,
-        &[1, 2, 4, 0, 0, 0, 0, 0, 4, 0, 320],
-    )
-}
-
 const TOO_OFTEN: Way = Way {
-    step: 1_000_000,
     jolts: 32_769,
-    end: None,
+    ..WHOLE
 };
 
 const JUST_NOT: Way = Way {
-    step: 1_000_000,
     jolts: 32_768,
-    end: None,
+    ..WHOLE
 };
 
-// A text in one piece: its read and the read of its end may be retried 65,536 times in all.
+// The whole text, and then only interrupted reads. Then the text in one piece: its read and the
+// read of its end may be retried 65,536 times in all.
 const INTERRUPTED: &[Step] = &[
     Step::Make(A_DAY),
-    Step::Read(TOO_OFTEN, TWO_NAMES, Outcome::Broken(4, 0, Fault::Input)),
+    Step::Read(FOR_EVER, TWO_NAMES, Outcome::Broken(4, 0, Fault::Input)),
+    Step::Read(TOO_OFTEN, TWO_NAMES, Outcome::Broken(0, 4, Fault::Input)),
     Step::Read(JUST_NOT, TWO_NAMES, Outcome::Took(0, 4)),
+    Step::Rows(&[1, 2, 4, 0, 0, 0, 0, 0, 4, 0, 320]),
 ];
 
 #[test]
-fn interrupted_in_two_reads(rt: HostRuntime) -> Result<(), AllocError> {
-    is_told(
-        &rt,
-        rt.alloc(),
-        false,
-        INTERRUPTED,
-        &[1, 2, 4, 0, 0, 0, 0, 0, 4, 0, 320],
-    )
+fn readers_interrupted_for_ever_or_too_often(rt: HostRuntime) -> Result<(), AllocError> {
+    is_told(&rt, rt.alloc(), INTERRUPTED)
 }

@@ -9,8 +9,7 @@ const TABLES: &'static [&'static str] = &[
     "posting",
 ];
 
-/// Checks the numbers of rows in the tables: the period, causes, nodes, devices, their lives,
-/// customers, entries, marked days, commands, moves, amounts.
+/// Checks the numbers of rows in the tables, in this order.
 pub fn has_rows<S: Alter>(
     rt: &impl Abort,
     alloc: Global,

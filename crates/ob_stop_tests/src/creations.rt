@@ -1,5 +1,5 @@
 //! A new book that is created over files that may stop, and the book that is then kept.
-use crate::office::{A_DAY, Office};
+use crate::office::Office;
 use crate::sending::failed;
 use crate::tasks::Kept;
 use ob_net::{Refusal, Stop};
@@ -7,9 +7,9 @@ use std::process::Abort;
 
 /// Creates a book: after an answer the book exists, and after a store fault it may exist.
 pub fn make<O: Office>(rt: &impl Abort, office: &mut O) -> Kept {
-    match office.makes(&A_DAY) {
+    match office.makes() {
         Ok(()) => Kept::all(1),
-        Err(stop) => failed(rt, office, stop, Kept { least: 0, most: 1 }),
+        Err(stop) => failed(rt, office, stop, Kept::or_one_more(0)),
     }
 }
 
@@ -19,7 +19,7 @@ fn found<O: Office>(rt: &impl Abort, office: &mut O) -> u32 {
         Ok(()) => 1,
         Err(stop) => {
             assert!(rt; stop == Stop::Refused(Refusal::BadBook));
-            assert!(rt; office.makes(&A_DAY).is_ok());
+            assert!(rt; office.makes().is_ok());
             0
         }
     }
@@ -31,6 +31,6 @@ pub fn holds_new<O: Office>(rt: &impl Abort, office: &mut O, kept: Kept) -> Kept
     let found = found(rt, office);
     assert!(rt; kept.allows(found));
     assert!(rt; office.shows() == Some((0, 0)));
-    assert!(rt; office.acts("N1 cause 3 STORM") == Ok(1));
+    assert!(rt; office.acts("cause,N1,3,STORM,,,,") == Ok(1));
     Kept::all(found)
 }

@@ -39,15 +39,7 @@ pub fn import<O: Office>(rt: &impl Abort, alloc: Global, office: &mut O) -> Kept
             assert!(rt; rows == 3);
             Kept::all(IMPORTED)
         }
-        Some(stop) => failed(
-            rt,
-            office,
-            stop,
-            Kept {
-                least: BEFORE + rows,
-                most: BEFORE + rows + 1,
-            },
-        ),
+        Some(stop) => failed(rt, office, stop, Kept::or_one_more(BEFORE + rows)),
     }
 }
 

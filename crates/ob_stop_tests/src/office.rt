@@ -1,5 +1,5 @@
 //! The calls of a `Keeper` over files that may stop, and the trials that use them.
-use ob_command::{Command, read_body};
+use ob_command::{Command, read_row};
 use ob_desk::serve_stream;
 use ob_import::{ImportFault, ImportReport, import_text};
 use ob_index::{Indices, Which};
@@ -13,12 +13,6 @@ use std::process::Abort;
 
 /// The answer to an import.
 pub type Report = Result<ImportReport, ImportFault>;
-
-/// The first day of a book, how many days it has, and its zone.
-pub type Period = (&'static str, u16, &'static str);
-
-/// 2024-01-01 in UTC.
-pub const A_DAY: Period = ("2024-01-01", 1, "UTC0");
 
 /// What a book shows without allocating: its commands, its customer-seconds in all and by cause and
 /// feeder, and the indices.
@@ -48,8 +42,8 @@ impl MoveSink for NoRoom {
 /// A book, or none, and the calls of its `Keeper` without their contracts: with these each function
 /// that makes some calls takes long to prove.
 pub trait Office {
-    /// Creates a book of a period.
-    fn makes(&mut self, period: &Period) -> Result<(), Stop>;
+    /// Creates a book of 2024-01-01 in UTC.
+    fn makes(&mut self) -> Result<(), Stop>;
 
     /// Reads the book that the tables hold.
     fn loads(&mut self) -> Result<(), Stop>;
@@ -60,8 +54,7 @@ pub trait Office {
     /// Answers whether no table differs from what the commands in the tables give.
     fn audits(&mut self) -> Result<bool, Stop>;
 
-    /// Sends the command of a line, which is a reference and a body text. Answers the number under
-    /// which it is accepted, now or before.
+    /// Sends the command of a row. Answers the number under which it is accepted, now or before.
     fn acts(&mut self, line: &str) -> Result<u32, Stop>;
 
     /// Answers whether there is a stored reply with this number.
@@ -85,12 +78,15 @@ pub trait Office {
     fn views(&self) -> Option<Views>;
 }
 
-// A reference and the command of a body text.
-fn asked(line: &str) -> Option<(Ref, Command)> {
-    let (reference, body) = line.split_once(" ")?;
-    let reference = Ref::read(reference.as_bytes())?;
-    let command = read_body(body.as_bytes())?;
-    Some((reference, command))
+// The reference and the command of a row.
+fn asked(line: &str) -> Result<(Ref, Command), Refusal> {
+    let mut row: [&[u8]; 8] = [b""; 8];
+    for (place, field) in line.split(',').enumerate() {
+        if let Some(slot) = row.get_mut(place) {
+            *slot = field.as_bytes();
+        }
+    }
+    read_row(&row)
 }
 
 // The customer-seconds by each dimension.
@@ -123,9 +119,8 @@ fn feeders_of(postings: &Postings) -> [u64; 3] {
 }
 
 impl<S: Alter, T: Timeline> Office for Keeper<S, T> {
-    fn makes(&mut self, period: &Period) -> Result<(), Stop> {
-        let (first, days, zone) = *period;
-        self.create(first.as_bytes(), days, zone.as_bytes())
+    fn makes(&mut self) -> Result<(), Stop> {
+        self.create(b"2024-01-01", 1, b"UTC0")
     }
 
     fn loads(&mut self) -> Result<(), Stop> {
@@ -144,12 +139,12 @@ impl<S: Alter, T: Timeline> Office for Keeper<S, T> {
     }
 
     fn acts(&mut self, line: &str) -> Result<u32, Stop> {
-        let Some((reference, command)) = asked(line) else {
-            return Err(Stop::Refused(Refusal::BadField(0)));
-        };
-        match self.act(reference, command) {
-            Ok(reply) => Ok(reply.no),
-            Err(stop) => Err(stop),
+        match asked(line) {
+            Ok((reference, command)) => match self.act(reference, command) {
+                Ok(reply) => Ok(reply.no),
+                Err(stop) => Err(stop),
+            },
+            Err(refusal) => Err(Stop::Refused(refusal)),
         }
     }
 

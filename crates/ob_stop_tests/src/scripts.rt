@@ -1,48 +1,4 @@
-//! Commands under references, one a line: a reference and the body text of a command.
-
-/// Two feeders of one bus with a tie between them and ten customers, and an outage. An hour after
-/// the start of 2024 B1 opens. Ten minutes later W1 opens and the tie closes, which supplies S2. An
-/// hour after its opening B1 closes.
-pub const OUTAGE: &'static str = "\
-N1 cause 3 STORM
-N2 cause 4 PLANNED
-N3 bus BUS-A
-N4 section S1 1
-N5 section S2 1
-N6 section S3 2
-N7 device I1 GRID BUS-A closed 0 -
-N8 device B1 BUS-A S1 closed 0 -
-N9 device W1 S1 S2 closed 0 -
-N10 device B2 BUS-A S3 closed 0 -
-N11 device T1 S2 S3 open 0 -
-N12 connect 1 S1 1704067200 -
-N13 connect 2 S1 1704067200 -
-N14 connect 3 S2 1704067200 -
-N15 connect 4 S2 1704067200 -
-N16 connect 5 S2 1704067200 -
-N17 connect 6 S3 1704067200 -
-N18 connect 7 S3 1704067200 -
-N19 connect 8 S3 1704067200 -
-N20 connect 9 S3 1704067200 -
-N21 connect 10 S3 1704067200 -
-N22 switch B1 open 1704070800 3 K1
-N23 switch W1 open 1704071400 3 K1
-N24 switch T1 close 1704071400 3 K1
-N25 switch B1 close 1704074400 3 K1
-";
-
-/// After the outage: an opening that comes late, ten minutes before the breaker's, and is
-/// withdrawn; then the breaker closed ten minutes earlier, and not at all. The life of a second
-/// device from the bus to S1 begins 5,000 seconds after the start of 2024, and the device supplies
-/// S1. The tie's life ends 1,000 seconds later, so S2 has no supply from then on.
-pub const AFTERWARDS: &'static str = "\
-LATE1 switch W1 open 1704070200 4 K1
-LATE2 withdraw 5 1
-FIX1 correct 4 1 close 1704073800 3 K1
-FIX2 withdraw 4 2
-JOIN1 device X1 BUS-A S1 closed 1704072200 -
-LIFE1 life T1 0 1704073200
-";
+//! Commands under references, one a line, as the rows of an import.
 
 /// The number of commands of the outage and those after it.
 pub const COMMANDS: u32 = 31;
@@ -61,8 +17,15 @@ pub fn total_of(accepted: u32) -> u64 {
     }
 }
 
-/// The same commands as the rows of an import.
-pub const ROWS: &'static [u8] = b"\
+/// Two feeders of one bus with a tie between them and ten customers, and an outage. An hour after
+/// the start of 2024 B1 opens. Ten minutes later W1 opens and the tie closes, which supplies S2. An
+/// hour after its opening B1 closes.
+///
+/// After the outage: an opening that comes late, ten minutes before the breaker's, and is
+/// withdrawn; then the breaker closed ten minutes earlier, and not at all. The life of a second
+/// device from the bus to S1 begins 5,000 seconds after the start of 2024, and the device supplies
+/// S1. The tie's life ends 1,000 seconds later, so S2 has no supply from then on.
+pub const ROWS: &'static str = "\
 kind,ref,f1,f2,f3,f4,f5,f6
 cause,N1,3,STORM,,,,
 cause,N2,4,PLANNED,,,,
@@ -106,18 +69,18 @@ pub struct Last {
 
 /// The breaker closed ten minutes earlier.
 pub const CORRECTION: Last = Last {
-    line: "FIX1 correct 4 1 close 1704073800 3 K1",
+    line: "correct,FIX1,4,1,close,1704073800,3,K1",
     total: 7_800,
 };
 
 /// A second device from the bus to S1, whose life begins 5,000 seconds after the start of 2024.
 pub const JOINING: Last = Last {
-    line: "JOIN1 device X1 BUS-A S1 closed 1704072200 -",
+    line: "device,JOIN1,X1,BUS-A,S1,closed,1704072200,",
     total: 4_600,
 };
 
 /// The tie's life ends 6,000 seconds after the start of 2024, and S2 has no supply from then on.
 pub const LEAVING: Last = Last {
-    line: "LIFE1 life T1 0 1704073200",
+    line: "life,LIFE1,T1,,1704073200,,,",
     total: 250_200,
 };

@@ -1,6 +1,6 @@
 //! A command that is sent to a book whose store may stop, and the book that is then kept.
-use crate::office::{A_DAY, Office};
-use crate::scripts::{Last, OUTAGE};
+use crate::office::Office;
+use crate::scripts::{Last, ROWS};
 use crate::tasks::Kept;
 use ob_net::{Fault, Stop};
 use std::alloc::Global;
@@ -32,8 +32,8 @@ fn total_of(accepted: u32, last: Last) -> u64 {
 
 /// Creates a book with the outage. Answers whether no call failed.
 pub fn is_made<O: Office>(office: &mut O) -> bool {
-    let mut is_told = office.makes(&A_DAY).is_ok();
-    for line in OUTAGE.lines() {
+    let mut is_told = office.makes().is_ok();
+    for line in ROWS.lines().skip(1).take(25) {
         is_told = is_told && office.acts(line).is_ok();
     }
     is_told && office.shows() == Some((BEFORE, TOTAL))
@@ -41,7 +41,7 @@ pub fn is_made<O: Office>(office: &mut O) -> bool {
 
 /// Answers whether there is no book, and each call that needs one requires it to be loaded first.
 pub fn is_without_book<O: Office>(office: &mut O) -> bool {
-    office.acts("N1 cause 3 STORM") == Err(REOPEN)
+    office.acts("cause,N1,3,STORM,,,,") == Err(REOPEN)
         && office.replies(1) == Err(REOPEN)
         && office.hands_on() == Err(REOPEN)
         && office.shows() == None
@@ -64,15 +64,7 @@ pub fn send<O: Office>(rt: &impl Abort, office: &mut O, last: Last) -> Kept {
             assert!(rt; no == AFTER);
             Kept::all(AFTER)
         }
-        Err(stop) => failed(
-            rt,
-            office,
-            stop,
-            Kept {
-                least: BEFORE,
-                most: AFTER,
-            },
-        ),
+        Err(stop) => failed(rt, office, stop, Kept::or_one_more(BEFORE)),
     }
 }
 

@@ -28,15 +28,7 @@ pub fn serve<O: Office>(rt: &impl Abort, alloc: Global, office: &mut O) -> Kept 
         }
         Some(stop) => {
             assert!(rt; written.as_slice() == UNAVAILABLE);
-            failed(
-                rt,
-                office,
-                stop,
-                Kept {
-                    least: BEFORE,
-                    most: AFTER,
-                },
-            )
+            failed(rt, office, stop, Kept::or_one_more(BEFORE))
         }
     }
 }

@@ -5,8 +5,9 @@ use crate::office::{Office, Trial, over};
 use crate::scripts::Last;
 use crate::sending::{BEFORE, holds, is_made, send};
 use crate::serving::serve;
-use crate::upgrades::{TO_VERSION_1, holds_upgraded, migrate, upgrade};
+use crate::upgrades::{holds_upgraded, migrate, upgrade};
 use crate::working::{act, read};
+use ob_harness::texts::TO_VERSION_1;
 use sqlite::{Alter, Connection, FileStore, Files, Options};
 use sqlite_disk::Disk;
 use std::alloc::Global;
@@ -25,6 +26,14 @@ impl Kept {
         Kept {
             least: count,
             most: count,
+        }
+    }
+
+    /// At least this much, and at most one more.
+    pub fn or_one_more(least: u32) -> Kept {
+        Kept {
+            least,
+            most: least.saturating_add(1),
         }
     }
 

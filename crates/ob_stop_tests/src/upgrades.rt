@@ -9,18 +9,6 @@ use crate::tasks::Kept;
 use ob_net::{Refusal, Stop};
 use std::process::Abort;
 
-/// Statements that turn the tables of the outage into those of version 1: no lives, and none in the
-/// bodies of the devices.
-pub const TO_VERSION_1: &'static str = "\
-DROP TABLE life;
-UPDATE cmd SET body = 'device I1 GRID BUS-A closed' WHERE id = 7;
-UPDATE cmd SET body = 'device B1 BUS-A S1 closed' WHERE id = 8;
-UPDATE cmd SET body = 'device W1 S1 S2 closed' WHERE id = 9;
-UPDATE cmd SET body = 'device B2 BUS-A S3 closed' WHERE id = 10;
-UPDATE cmd SET body = 'device T1 S2 S3 open' WHERE id = 11;
-UPDATE meta SET version = 1;
-";
-
 // The tables are those of a book of version 1.
 const OLD: Stop = Stop::Refused(Refusal::OldVersion(1));
 
@@ -40,7 +28,7 @@ pub fn migrate<O: Office>(rt: &impl Abort, office: &mut O) -> Kept {
             assert!(rt; is_made);
             Kept::all(1)
         }
-        Err(stop) => failed(rt, office, stop, Kept { least: 0, most: 1 }),
+        Err(stop) => failed(rt, office, stop, Kept::or_one_more(0)),
     }
 }
 

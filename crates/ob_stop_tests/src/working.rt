@@ -1,9 +1,9 @@
 //! The outage and the commands after it, command by command or by an import, on a book whose calls
 //! may be refused memory once.
 use crate::memory::{NO_MEMORY, goes_on, holds, load};
-use crate::office::{A_DAY, Office};
-use crate::scripts::{AFTERWARDS, COMMANDS, OUTAGE, ROWS};
-use crate::sending::{BEFORE, STORE, take_rows};
+use crate::office::Office;
+use crate::scripts::{COMMANDS, ROWS};
+use crate::sending::{STORE, take_rows};
 use crate::tasks::Kept;
 use ob_net::{Refusal, Stop};
 use std::alloc::Global;
@@ -11,12 +11,12 @@ use std::process::Abort;
 
 // Creates the book. False if the store failed.
 fn makes<O: Office>(rt: &impl Abort, office: &mut O) -> bool {
-    match office.makes(&A_DAY) {
+    match office.makes() {
         Ok(()) => true,
         Err(stop) => {
             assert!(rt; office.views() == None);
             assert!(rt; stop == NO_MEMORY || stop == STORE);
-            stop == NO_MEMORY && office.makes(&A_DAY).is_ok()
+            stop == NO_MEMORY && office.makes().is_ok()
         }
     }
 }
@@ -48,14 +48,6 @@ fn accepted<O: Office>(office: &O) -> u32 {
     }
 }
 
-// This many commands are kept, and perhaps one more.
-fn or_one_more(least: u32) -> Kept {
-    Kept {
-        least,
-        most: least.saturating_add(1),
-    }
-}
-
 // Sends the command of this number, for the first time or again. If that is refused memory, sends
 // it once more. False if the store failed and the book can't be read over these files.
 fn sends<O: Office>(rt: &impl Abort, office: &mut O, line: &str, no: u32) -> bool {
@@ -74,35 +66,26 @@ fn sends<O: Office>(rt: &impl Abort, office: &mut O, line: &str, no: u32) -> boo
     true
 }
 
-// Sends those lines of a script, numbered from after `first`, that the book lacks, and the last
-// command of all. Answers what is kept, which is less if the store failed.
-fn sends_all<O: Office>(rt: &impl Abort, office: &mut O, script: &str, first: u32) -> Kept {
-    let mut no = first;
-    for line in script.lines() {
+/// Sends the commands that the book lacks, one by one, and the last of them again. Answers what is
+/// kept, which is less if the store failed.
+pub fn act<O: Office>(rt: &impl Abort, office: &mut O, kept: Kept) -> Kept {
+    if !begins(rt, office, kept) {
+        return kept;
+    }
+    let mut no = 0u32;
+    for line in ROWS.lines().skip(1) {
         no = no.saturating_add(1);
         let is_sent = accepted(office) < no || no == COMMANDS;
         if is_sent && !sends(rt, office, line, no) {
-            return or_one_more(no.saturating_sub(1));
+            return Kept::or_one_more(no.saturating_sub(1));
         }
     }
     Kept::all(no)
 }
 
-/// Sends the commands that the book lacks, one by one, and the last of them again.
-pub fn act<O: Office>(rt: &impl Abort, office: &mut O, kept: Kept) -> Kept {
-    if !begins(rt, office, kept) {
-        return kept;
-    }
-    let found = sends_all(rt, office, OUTAGE, 0);
-    if found.least < BEFORE {
-        return found;
-    }
-    sends_all(rt, office, AFTERWARDS, BEFORE)
-}
-
 // Imports all rows, of which `before` were in the book, and checks the report and the book.
 fn is_imported<O: Office>(rt: &impl Abort, alloc: Global, office: &mut O, before: u32) {
-    let found = take_rows(alloc, office, ROWS);
+    let found = take_rows(alloc, office, ROWS.as_bytes());
     assert!(rt; found.stop == None);
     assert!(rt; found.again == before && found.rows == COMMANDS);
     assert!(rt; holds(office, Kept::all(COMMANDS)));
@@ -115,8 +98,8 @@ pub fn read<O: Office>(rt: &impl Abort, alloc: Global, office: &mut O, kept: Kep
         return kept;
     }
     let before = accepted(office);
-    let found = take_rows(alloc, office, ROWS);
-    let kept = or_one_more(before.max(found.rows));
+    let found = take_rows(alloc, office, ROWS.as_bytes());
+    let kept = Kept::or_one_more(before.max(found.rows));
     assert!(rt; found.again == before.min(found.rows));
     match found.stop {
         None => assert!(rt; found.rows == COMMANDS),

@@ -10,7 +10,7 @@ use crate::ask::{change_of, obey};
 use crate::feeders::{NODES, feeders};
 use crate::sheet::{period_of, sheet_of};
 use ob_command::{Command, read_body};
-use ob_net::Net;
+use ob_net::{Net, read_number};
 use ob_sheet::Sheet;
 use ob_sweep::{Delta, Run, Scratch, Timeline, Windowed};
 use ob_time::{CivilDays, Period};
@@ -18,45 +18,40 @@ use std::alloc::Global;
 use std::process::Abort;
 use std::test::Fail;
 
-/// A number of days, with the date of the first one.
-#[derive(Clone, Copy)]
-pub struct Days {
-    pub first: &'static [u8],
-    pub count: u16,
+// The first date and the number of days of a period, the lives of devices, and the commands of the
+// switching log, one a line.
+#[derive(Drop)]
+struct Given<'t> {
+    first: &'t str,
+    days: u16,
+    lives: String,
+    log: String,
 }
 
-/// A day in 1970.
-pub const DAY: Days = Days {
-    first: b"1970-01-01",
-    count: 1,
-};
-
-/// A day in 2024.
-pub const DAY_OF_2024: Days = Days {
-    first: b"2024-01-01",
-    count: 1,
-};
-
-/// Lives of devices, and cases: the commands of the switching log, one a line, and a title with the
-/// searches that building takes and the expected outage intervals of the sections S1 to S5.
-#[derive(Clone, Copy)]
-pub struct Built {
-    pub days: Days,
-    pub lives: &'static str,
-    pub cases: &'static [(&'static str, &'static str)],
+impl<'t> Given<'t> {
+    // That of a line: the first date and the number of days, ` | `, the lives, ` | `, the log.
+    fn of(alloc: Global, line: &'t str) -> Result<Given<'t>, Fail> {
+        let (period, rest) = line.split_once(" | ").ok_or("lives")?;
+        let (lives, log) = rest.split_once(" | ").ok_or("a log")?;
+        let (first, days) = period.split_once(" ").ok_or("a number of days")?;
+        Ok(Given {
+            first,
+            days: days_in(days)?,
+            lives: lines_of(alloc, lives)?,
+            log: lines_of(alloc, log)?,
+        })
+    }
 }
 
-/// Lives of devices, the commands of the switching log, and cases, one a line: a title, one more
-/// command and its effect. The effect is the searches, the touched sections, and the outage
-/// intervals of the sections S1 to S5 afterwards. There are two numbers of searches: on a timeline
-/// that finds outage intervals from scratch (`Scratch`), and on one that finds them in windows
-/// (`Windowed`). The window of a change is the seconds in which the change can alter the supply.
-#[derive(Clone, Copy)]
-pub struct Changes {
-    pub days: Days,
-    pub lives: &'static str,
-    pub script: &'static str,
-    pub cases: &'static str,
+fn days_in(text: &str) -> Result<u16, Fail> {
+    let days = read_number(text.as_bytes(), 3, 1, 366).ok_or("a number")?;
+    Ok(u16::try_from(days)?)
+}
+
+// The commands of a line, with `; ` between them, one a line; `-` for none.
+fn lines_of(alloc: Global, commands: &str) -> Result<String, Fail> {
+    let commands = if commands == "-" { "" } else { commands };
+    Ok(commands.replace(alloc, "; ", "\n")?)
 }
 
 // The text of an outage interval: its section, its first second, the second after its last, and the
@@ -119,49 +114,44 @@ fn names_of(alloc: Global, nodes: &[u16]) -> Result<String, Fail> {
 const SECTIONS: &'static [u16] = &[2, 3, 4, 5, 6];
 
 // The network, the days and the switching log.
-fn days_of(
-    alloc: Global,
-    days: &Days,
-    lives: &str,
-    script: &str,
-) -> Result<(Net, Period, Sheet), Fail>
+fn days_of(alloc: Global, given: &Given<'_>) -> Result<(Net, Period, Sheet), Fail>
     ensures devices { IfOk result (λ d. NameDevices (length d.0.network.devices) d.2.entries) }
     ensures all { IfOk result (λ d. All (λ e. (first_second_of d.1 ≤ e.second)
         × (e.second < end_second_of d.1)) d.2.entries) }
 {
-    let net = feeders(alloc, lives)?;
-    let period = period_of(alloc, days.first, days.count)?;
-    let sheet = sheet_of(alloc, &net, &period, script)?;
+    let net = feeders(alloc, given.lives.as_str())?;
+    let period = period_of(alloc, given.first.as_bytes(), given.days)?;
+    let sheet = sheet_of(alloc, &net, &period, given.log.as_str())?;
     Ok((net, period, sheet))
 }
 
-// The outage intervals that are built, and the searches that this takes.
+// The searches that building takes, and the outage intervals that are built.
 fn runs_built<T: Timeline>(
     alloc: Global,
     net: &mut Net,
     sheet: &Sheet,
     period: &CivilDays,
-) -> Result<(String, u128), Fail>
+) -> Result<String, Fail>
     requires devices { NameDevices (length net.old.network.devices) sheet.now.entries }
     requires all { All (λ e. (first_second_of period.now ≤ e.second)
         × (e.second < end_second_of period.now)) sheet.now.entries }
 {
     let timeline = T::build(alloc, net, sheet, period)?;
     let runs = texts_of(alloc, &timeline, SECTIONS)?;
-    Ok((runs, net.searches()))
+    let searches = net.searches();
+    Ok(format!(in alloc; "{searches}:{runs}")?)
 }
 
-fn build_on<T: Timeline>(
+// Checks the searches and the outage intervals that building takes and gives.
+fn build<T: Timeline>(
     rt: &impl Abort,
     alloc: Global,
-    over: &Built,
-    script: &str,
-    case: &str,
+    given: &Given<'_>,
+    title: &str,
+    wanted: &str,
 ) -> Result<(), Fail> {
-    let (title, wanted) = case.split_once(" => ").ok_or("a title")?;
-    let (mut net, period, sheet) = days_of(alloc, &over.days, over.lives, script)?;
-    let (runs, searches) = runs_built::<T>(alloc, &mut net, &sheet, &period)?;
-    let found = format!(in alloc; "{searches}:{runs}")?;
+    let (mut net, period, sheet) = days_of(alloc, given)?;
+    let found = runs_built::<T>(alloc, &mut net, &sheet, &period)?;
     assert!(rt;
         net.nodes() == 6 && found.as_str() == wanted,
         "{title}: {found}"
@@ -169,37 +159,14 @@ fn build_on<T: Timeline>(
     Ok(())
 }
 
-/// Checks that each timeline builds these outage intervals.
-pub fn build(rt: &impl Abort, alloc: Global, built: &[Built]) -> Result<(), Fail> {
-    for over in built {
-        for (script, case) in over.cases {
-            build_on::<Scratch>(rt, alloc, over, *script, *case)?;
-            build_on::<Windowed>(rt, alloc, over, *script, *case)?;
-        }
-    }
-    Ok(())
-}
-
-// The effect of a change: the searches it took, the sections it touched with their planned new
-// outage intervals, and the intervals that these sections had afterwards. Also the outage intervals
-// of the sections S1 to S5, and whether all intervals equal those built from scratch.
-#[derive(Drop)]
-struct Effect {
-    searches: u128,
-    touched: String,
-    planned: String,
-    adopted: String,
-    runs: String,
-    is_as_built: bool,
-}
-
-// Adopts a change. Answers the new outage intervals planned for the touched sections, and those
-// that they have afterwards.
+// Adopts a change. Checks that the touched sections then have the outage intervals that were
+// planned for them.
 fn adopt<T: Timeline>(
+    rt: &impl Abort,
     alloc: Global,
     timeline: &mut T,
     delta: Delta,
-) -> Result<(String, String), Fail>
+) -> Result<(), Fail>
     requires count { 7 ≤ length (T.content timeline.old) }
     requires fits { Fits (T.content timeline.old) delta }
     ensures count { length (T.content timeline.new) ≡ length (T.content timeline.old) }
@@ -208,7 +175,8 @@ fn adopt<T: Timeline>(
     let planned = new_runs(alloc, &delta)?;
     timeline.adopt(delta);
     let adopted = texts_of(alloc, timeline, &sections)?;
-    Ok((planned, adopted))
+    assert!(rt; adopted == planned, "{adopted}");
+    Ok(())
 }
 
 /// Answers the outage intervals built before a change that is asked for, the planned changes of
@@ -258,77 +226,76 @@ fn is_as_built<T: Timeline>(
     Ok(true)
 }
 
-// Plans and adopts the change that a command asks for.
+// Plans and adopts the change that a command asks for, and checks that all outage intervals then
+// equal those built from scratch. Answers the searches, the touched sections and the outage
+// intervals of the sections S1 to S5.
 fn take_over<T: Timeline>(
+    rt: &impl Abort,
     alloc: Global,
     net: &mut Net,
     sheet: &mut Sheet,
     period: &CivilDays,
     command: &Command,
-) -> Result<Effect, Fail>
+) -> Result<String, Fail>
     requires devices { NameDevices (length net.old.network.devices) sheet.old.entries }
     requires all { All (λ e. (first_second_of period.now ≤ e.second)
         × (e.second < end_second_of period.now)) sheet.old.entries }
 {
     let (mut timeline, delta, searches) = planned::<T>(alloc, net, sheet, period, command)?;
     let touched = names_of(alloc, delta.touched())?;
-    let (planned, adopted) = adopt(alloc, &mut timeline, delta)?;
+    adopt(rt, alloc, &mut timeline, delta)?;
     obey(sheet, net, period, command)?;
     let runs = texts_of(alloc, &timeline, SECTIONS)?;
-    let is_as_built = is_as_built(alloc, net, sheet, period, &timeline)?;
-    Ok(Effect {
-        searches,
-        touched,
-        planned,
-        adopted,
-        runs,
-        is_as_built,
-    })
+    assert!(rt; is_as_built(alloc, net, sheet, period, &timeline)?);
+    Ok(format!(in alloc; "{searches}:{touched}:{runs}")?)
 }
 
-fn effect_of<T: Timeline>(alloc: Global, over: &Changes, ask: &str) -> Result<Effect, Fail> {
-    let command = read_body(ask.as_bytes()).ok_or("a command")?;
-    let (mut net, period, mut sheet) = days_of(alloc, &over.days, over.lives, over.script)?;
-    take_over::<T>(alloc, &mut net, &mut sheet, &period, &command)
-}
-
-// Checks the effect of a command: its searches, and the text of the touched sections and of the
-// outage intervals.
-fn is_wanted<T: Timeline>(
+// Checks the effect of a command: its searches, the touched sections and the outage intervals.
+fn alter<T: Timeline>(
     rt: &impl Abort,
     alloc: Global,
-    over: &Changes,
-    (title, ask): (&str, &str),
-    (searches, wanted): (&str, &str),
+    given: &Given<'_>,
+    case: (&str, &str),
+    wanted: (&str, &str),
 ) -> Result<(), Fail> {
-    let effect = effect_of::<T>(alloc, over, ask)?;
-    let found = format!(in alloc; "{}:{}", effect.touched, effect.runs)?;
-    assert!(rt; found.as_str() == wanted, "{title}:{found}");
-    let found = format!(in alloc; "{}", effect.searches)?;
-    assert!(rt; found.as_str() == searches, "{title}: {found} searches");
-    assert!(rt;
-        effect.adopted == effect.planned,
-        "{title}:{}",
-        effect.adopted
-    );
-    assert!(rt; effect.is_as_built, "{title}: built anew");
+    let (title, ask) = case;
+    let command = read_body(ask.as_bytes()).ok_or("a command")?;
+    let (mut net, period, mut sheet) = days_of(alloc, given)?;
+    let found = take_over::<T>(rt, alloc, &mut net, &mut sheet, &period, &command)?;
+    assert!(rt; found.split_once(":") == Some(wanted), "{title}: {found}");
     Ok(())
 }
 
-fn alter_one(rt: &impl Abort, alloc: Global, over: &Changes, line: &str) -> Result<(), Fail> {
+fn tell_one(rt: &impl Abort, alloc: Global, given: &Given<'_>, line: &str) -> Result<(), Fail> {
     let (head, effect) = line.split_once(" => ").ok_or("an effect")?;
-    let case = head.split_once(": ").ok_or("a title")?;
+    let Some(case) = head.split_once(": ") else {
+        build::<Scratch>(rt, alloc, given, head, effect)?;
+        return build::<Windowed>(rt, alloc, given, head, effect);
+    };
     let (searches, wanted) = effect.split_once(":").ok_or("sections")?;
     let (scratch, windowed) = searches.split_once(" ").ok_or("two numbers")?;
-    is_wanted::<Scratch>(rt, alloc, over, case, (scratch, wanted))?;
-    is_wanted::<Windowed>(rt, alloc, over, case, (windowed, wanted))
+    alter::<Scratch>(rt, alloc, given, case, (scratch, wanted))?;
+    alter::<Windowed>(rt, alloc, given, case, (windowed, wanted))
 }
 
-/// Checks on each timeline that these changes have the expected effects.
-pub fn alter(rt: &impl Abort, alloc: Global, changes: &[Changes]) -> Result<(), Fail> {
-    for over in changes {
-        for line in over.cases.lines() {
-            alter_one(rt, alloc, over, line)?;
+/// Checks cases on a timeline that finds outage intervals from scratch (`Scratch`), and on one that
+/// finds them in windows (`Windowed`). The window of a change is the seconds in which the change
+/// can alter the supply.
+///
+/// A line without ` => ` gives a period, lives and a switching log, as
+/// `1970-01-01 1 | life T1 0 6000 | switch B1 open 3600 3 K1; switch T1 close 4200 3 K1`, for the
+/// cases up to the next such line. A case is a title, ` => `, the searches that building takes and
+/// the outage intervals of the sections S1 to S5: name, first second, the second after the last,
+/// and the number of its cutter (the entry that began it) or `-`. Or it is a title, `: `, one
+/// more command, ` => `, the searches on either timeline, the touched sections, and the outage
+/// intervals afterwards.
+pub fn tell(rt: &impl Abort, alloc: Global, text: &str) -> Result<(), Fail> {
+    let mut given = Given::of(alloc, "1970-01-01 1 | - | -")?;
+    for line in text.lines() {
+        if line.contains(" => ") {
+            tell_one(rt, alloc, &given, line)?;
+        } else {
+            given = Given::of(alloc, line)?;
         }
     }
     Ok(())

@@ -23,15 +23,6 @@ device T1 S2 S3 open 0 -
 /// The nodes of the network by number, and one that doesn't exist yet.
 pub const NODES: [&'static str; 7] = ["GRID", "BUS-A", "S1", "S2", "S3", "S4", "S5"];
 
-/// From 3600 on S1 has no supply until its breaker closes, and S2 has none until the tie closes at
-/// 4200.
-pub const TAKEN_OVER: &'static str = "\
-switch B1 open 3600 3 K1
-switch W1 open 4200 3 K1
-switch T1 close 4200 3 K1
-switch B1 close 7200 3 K1
-";
-
 /// The two feeders, with lives of their devices.
 pub fn feeders(alloc: Global, lives: &str) -> Result<Net, Fail> {
     net_of(alloc, FEEDERS, lives)

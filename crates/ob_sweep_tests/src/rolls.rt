@@ -1,7 +1,7 @@
-//! Tests of the customer register: customers by number, refusals, seconds of service, and equal
-//! services.
+//! Tests of the customer register: customers by number, seconds of service, and equal services. Its
+//! refusals are tested in `ob_total_tests` and `ob_book_tests`.
 use ob_cust::{Block, Customer, Roll, SectionBlock};
-use ob_net::{LAST_SECOND, Refusal, Second, Stop};
+use ob_net::{LAST_SECOND, Second, Stop};
 use std::alloc::Global;
 use std::process::Abort;
 use std::test::Fail;
@@ -55,55 +55,11 @@ fn holds_one_customer_alone(rt: HostRuntime) -> Result<(), Fail> {
     Ok(())
 }
 
-fn are_refused(rt: &impl Abort, roll: &mut Roll, rows: &[(Customer, Refusal)]) -> Result<(), Fail> {
-    for (customer, refusal) in rows {
-        roll.reserve_one()?;
-        assert!(rt; roll.connect(*customer) == Err(*refusal));
-    }
-    Ok(())
-}
-
-#[test]
-fn refuses_a_taken_number_before_a_bad_service(rt: HostRuntime) -> Result<(), Fail> {
-    let first = service(3, 1, 0, None);
-    let mut roll = roll_of(rt.alloc(), &[first])?;
-    are_refused(
-        &rt,
-        &mut roll,
-        &[
-            (service(3, 2, 5, Some(6)), Refusal::NameTaken),
-            (service(3, 2, 6, Some(5)), Refusal::NameTaken),
-            (service(4, 2, 5, Some(5)), Refusal::BadService),
-            (service(4, 2, 6, Some(5)), Refusal::BadService),
-        ],
-    )?;
-    has_customers(&rt, &roll, &[first]);
-    Ok(())
-}
-
-// A customer, the bounds of its new service, and why they are refused.
-type RevisionRow = (u32, Second, Option<Second>, Refusal);
-
-fn are_not_revised(rt: &impl Abort, roll: &mut Roll, rows: &[RevisionRow]) {
-    for (no, since, until, refusal) in rows {
-        assert!(rt; roll.revise(*no, *since, *until) == Err(*refusal));
-    }
-}
-
 #[test]
 fn revises_the_service_of_one_customer(rt: HostRuntime) -> Result<(), Fail> {
     let three = service(3, 1, 0, None);
     let mut roll = roll_of(rt.alloc(), &[three, service(5, 1, 0, None)])?;
     assert!(rt; roll.revise(5, 10, Some(11)) == Ok(()));
-    are_not_revised(
-        &rt,
-        &mut roll,
-        &[
-            (4, 5, Some(5), Refusal::UnknownCustomer),
-            (3, 5, Some(5), Refusal::BadService),
-            (3, 5, Some(4), Refusal::BadService),
-        ],
-    );
     has_customers(&rt, &roll, &[three, service(5, 1, 10, Some(11))]);
     Ok(())
 }

@@ -1,5 +1,5 @@
 //! Tests of switching logs: the order of their entries, the positions that these leave, corrections
-//! and withdrawals.
+//! and withdrawals. A full log is tested in `ob_total_tests`.
 ghost use Rattle.std.specs.Prelude.{IfOk, length};
 ghost use Rattle.ob_sheet.specs.Sheet.{NameDevices};
 
@@ -48,6 +48,20 @@ fn crew() -> Result<Crew, Fail> {
     Ok(Crew::read(b"CREW-1").ok_or("a crew")?)
 }
 
+// A closing of a device by the crew.
+fn closing(no: u32, rev: u32, device: u16, second: Second, cause: u8) -> Result<Entry, Fail> {
+    Ok(Entry {
+        no,
+        rev,
+        device,
+        pos: Closed,
+        second,
+        cause,
+        crew: crew()?,
+        kept: true,
+    })
+}
+
 fn is_entry(rt: &impl Abort, sheet: &Sheet, entry: Entry) {
     assert!(rt; sheet.entry(entry.no) == Some(entry));
 }
@@ -61,16 +75,7 @@ fn a_late_entry_before_an_earlier_opening(rt: HostRuntime) -> Result<(), Fail> {
     let (_, sheet) = switched(rt.alloc(), "")?;
     assert!(rt; sheet.len() == 4 && !sheet.is_full());
     is_in_order(&rt, &sheet, &[3, 1, 4, 2]);
-    let late = Entry {
-        no: 3,
-        rev: 1,
-        device: 0,
-        pos: Closed,
-        second: 100,
-        cause: 7,
-        crew: crew()?,
-        kept: true,
-    };
+    let late = closing(3, 1, 0, 100, 7)?;
     is_entry(&rt, &sheet, late);
     assert!(rt; sheet.entry(0) == None && sheet.entry(5) == None);
     Ok(())
@@ -199,26 +204,9 @@ fn are_refused(rt: &impl Abort, sheet: &mut Sheet, crew: Crew, rows: &[(u32, u32
 #[test]
 fn entries_are_corrected_and_withdrawn(rt: HostRuntime) -> Result<(), Fail> {
     let (_, mut sheet) = switched(rt.alloc(), "")?;
-    revise(&rt, &mut sheet, crew()?);
-    let corrected = Entry {
-        no: 4,
-        rev: 2,
-        device: 2,
-        pos: Closed,
-        second: 50,
-        cause: 3,
-        crew: crew()?,
-        kept: true,
-    };
-    is_entry(&rt, &sheet, corrected);
-    Ok(())
-}
-
-#[test]
-fn revisions_are_refused(rt: HostRuntime) -> Result<(), Fail> {
-    let (_, mut sheet) = switched(rt.alloc(), "")?;
     let crew = crew()?;
     revise(&rt, &mut sheet, crew);
+    is_entry(&rt, &sheet, closing(4, 2, 2, 50, 3)?);
     are_refused(
         &rt,
         &mut sheet,
@@ -270,24 +258,5 @@ fn an_entry_is_put_in_place_of_another(rt: HostRuntime) -> Result<(), Fail> {
     let new = add_and_replace(&rt, &mut sheet, crew()?)?;
     is_in_order(&rt, &sheet, &[5, 3, 1, 4, 2]);
     is_entry(&rt, &sheet, new);
-    Ok(())
-}
-
-fn fill(rt: &impl Abort, sheet: &mut Sheet, crew: Crew) -> Result<(), Fail> {
-    for second in 0..50_000 {
-        sheet.reserve_one()?;
-        assert!(rt; !sheet.is_full());
-        sheet.enter(0, Opened, second, 0, crew);
-    }
-    Ok(())
-}
-
-#[test]
-fn takes_as_many_entries_as_it_may(rt: HostRuntime) -> Result<(), Fail> {
-    let mut sheet = Sheet::new(rt.alloc());
-    fill(&rt, &mut sheet, crew()?)?;
-    assert!(rt; sheet.is_full());
-    assert!(rt; sheet.in_order().first() == Some(&1));
-    assert!(rt; sheet.in_order().last() == Some(&50_000));
     Ok(())
 }

@@ -1,5 +1,5 @@
 //! Tests of commands on a network without an entry, and on one with an entry.
-use crate::script::script;
+use crate::script::{joined, script};
 use std::test::Fail;
 
 /// A section that is supplied over a bus, and its one customer.
@@ -71,16 +71,8 @@ fn commands_of_an_open_network(rt: HostRuntime) -> Result<(), Fail> {
     script(&rt, rt.alloc(), FEEDER, OPEN)
 }
 
-// The same rows, followed by an opening in the switching log.
-const OPENED: &'static str = "\
-span,A0,100,200,,,,
-bus,A1,BUS-A,,,,,
-section,A2,S1,1,,,,
-device,A3,I1,GRID,BUS-A,closed,,
-device,A4,B1,BUS-A,S1,closed,,
-connect,C1,1,S1,0,,,
-switch,E1,B1,open,150,3,K1,
-";
+// An opening in the switching log.
+const OPENED: &'static str = "switch,E1,B1,open,150,3,K1,\n";
 
 // The network may change after entries.
 const ENTERED: &'static str = "\
@@ -114,5 +106,6 @@ life,X,B1,120,120,,, => refused 18 BadLife row 8
 
 #[test]
 fn commands_behind_an_entry(rt: HostRuntime) -> Result<(), Fail> {
-    script(&rt, rt.alloc(), OPENED, ENTERED)
+    let base = joined(rt.alloc(), FEEDER, OPENED)?;
+    script(&rt, rt.alloc(), base.as_str(), ENTERED)
 }

@@ -1,9 +1,9 @@
 //! Tests of the rows of texts, worked out by hand from RFC 4180 and the rules of `RowReader`.
 use ob_csv::{Row, RowReader, column_names};
+use ob_harness::{FULL, Source, Way};
 use ob_net::{Fault, Stop};
 use std::alloc::Global;
-use std::io;
-use std::io::{ErrorKind, Read};
+use std::io::Read;
 use std::process::Abort;
 use std::test::Fail;
 
@@ -128,6 +128,10 @@ fn quotes_and_other_bytes(rt: HostRuntime) -> Result<(), Fail> {
                 b"......<\xFF\x00><\xC3>;.......<\x80>;",
             ),
             (b"#a;b\\,c,,,,,,\n", b"<#a;b\\><c>......;"),
+            (
+                b"switch,R-1,\"a,b\",2,,4, 5,\xFF\r\n",
+                b"<switch><R-1><a,b><2>.<4>< 5><\xFF>;",
+            ),
         ],
     )
 }
@@ -144,6 +148,8 @@ fn rows_of_other_lengths(rt: HostRuntime) -> Result<(), Fail> {
             (b"a,\nb\n", b"-;-;"),
             (b"a\n1,2,3,4,5,6,7,8\n", b"-;<1><2><3><4><5><6><7><8>;"),
             (b"a\n1,2,3,4,5,6,7,8,9\n", b"-;-;"),
+            (b"1,2,3,4,5,6,7\n1,2,3,4,5,6,7,8,\n", b"-;-;"),
+            (b"1,2,3,4,5,6,\"7,8\"\n", b"-;"),
         ],
     )
 }
@@ -154,43 +160,6 @@ fn first(alloc: Global, text: &[u8]) -> Result<Row, Stop> {
     let mut row = Row::new(alloc);
     rows.next_row(&mut row)?;
     Ok(row)
-}
-
-#[test]
-fn eight_fields_stand_in_their_order(rt: HostRuntime) -> Result<(), Fail> {
-    let text = b"switch,R-1,\"a,b\",2,,4, 5,\xFF\r\n";
-    show_rows(
-        &rt,
-        rt.alloc(),
-        &[(text, b"<switch><R-1><a,b><2>.<4>< 5><\xFF>;")],
-    )
-}
-
-// Checks that the first row of each text has eight fields, or that it hasn't.
-fn have_eight(rt: &impl Abort, alloc: Global, wanted: bool, texts: &[&[u8]]) -> Result<(), Fail> {
-    for text in texts {
-        let row = first(alloc, text)?;
-        assert!(rt; row.fields().is_some() == wanted);
-    }
-    Ok(())
-}
-
-#[test]
-fn only_rows_of_eight_have_eight_fields(rt: HostRuntime) -> Result<(), Fail> {
-    have_eight(&rt, rt.alloc(), true, &[b"1,2,3,4,5,6,7,8\n", b",,,,,,,"])?;
-    have_eight(
-        &rt,
-        rt.alloc(),
-        false,
-        &[
-            b"",
-            b"\"\"\n",
-            b" \n",
-            b"1,2,3,4,5,6,7\n",
-            b"1,2,3,4,5,6,7,8,\n",
-            b"1,2,3,4,5,6,\"7,8\"\n",
-        ],
-    )
 }
 
 // Checks that the first row of each text is the header, or that it isn't.
@@ -213,11 +182,7 @@ fn headers(rt: HostRuntime) -> Result<(), Fail> {
             b"\xEF\xBB\xBF\r\nkind,ref,f1,f2,f3,f4,f5,f6",
             b"\"kind\",\"ref\",f1,f2,f3,f4,f5,\"f6\"\r\n",
         ],
-    )
-}
-
-#[test]
-fn other_rows_than_headers(rt: HostRuntime) -> Result<(), Fail> {
+    )?;
     are_headers(
         &rt,
         rt.alloc(),
@@ -243,27 +208,12 @@ fn columns_have_their_names(rt: HostRuntime) {
     }
 }
 
-// A reader that gives its bytes one by one, and then fails.
-#[derive(Drop)]
-struct Failing<'a> {
-    bytes: &'a [u8],
-}
-
-impl<'a> Read for Failing<'a> {
-    fn read(&mut self, buf: &mut [u8]) -> io::Result<usize> {
-        if self.bytes.is_empty() {
-            return Err(io::Error::from(ErrorKind::Other));
-        }
-        let mut front = &self.bytes[..buf.len().min(1)];
-        let count = front.read(buf)?;
-        self.bytes = &self.bytes[count.min(self.bytes.len())..];
-        Ok(count)
-    }
-}
+// One by one, and then a failure.
+const FAILING: Way = Way { step: 1, ..FULL };
 
 #[test]
 fn a_reader_that_fails_gives_no_further_row(rt: HostRuntime) {
-    let mut rows = RowReader::new(rt.alloc(), Failing { bytes: b"a,b\nc,d" });
+    let mut rows = RowReader::new(rt.alloc(), Source::new(b"a,b\nc,d", FAILING));
     let mut row = Row::new(rt.alloc());
     let no_memory = Err(Stop::Fault(Fault::OutOfMemory));
     assert!(rt; rows.next_row(&mut row) == Ok(true));

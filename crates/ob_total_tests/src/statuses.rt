@@ -1,7 +1,7 @@
 //! Tests of the line that reports a stop, and of the exit status of the program.
-use crate::streams::Source;
 use crate::texts::FIRST_RUN;
 use ob_cli::{Unfinished, WrongWords, complaint_of, status_of_run};
+use ob_harness::{FAILING, Source};
 use ob_net::{Fault, Refusal, Stop, Watched};
 use ob_total::run_total;
 use std::alloc::{AllocError, Global};
@@ -24,29 +24,18 @@ fn complains(
 
 #[test]
 fn a_complaint_has_number_name_detail_and_row(rt: HostRuntime) -> Result<(), Fail> {
-    let out_of_period = Stop::Refused(Refusal::OutOfPeriod);
+    let late = Stop::Refused(Refusal::OutOfPeriod);
     let bad_field = Stop::Refused(Refusal::BadField(4));
     let full = Stop::Refused(Refusal::Full(1_000_000));
     let old_version = Stop::Refused(Refusal::OldVersion(1));
     let alloc = rt.alloc();
     complains(&rt, alloc, bad_field, Some(1), "refused 1 BadField 4 row 1")?;
-    complains(
-        &rt,
-        alloc,
-        out_of_period,
-        Some(24),
-        "refused 5 OutOfPeriod row 24",
-    )?;
+    complains(&rt, alloc, late, Some(24), "refused 5 OutOfPeriod row 24")?;
     complains(&rt, alloc, full, None, "refused 12 Full 1000000")?;
     complains(&rt, alloc, old_version, None, "refused 19 OldVersion 1")?;
-    complains(&rt, alloc, out_of_period, None, "refused 5 OutOfPeriod")?;
-    complains(
-        &rt,
-        alloc,
-        Stop::Fault(Fault::Input),
-        None,
-        "fault 23 Input",
-    )?;
+    complains(&rt, alloc, late, None, "refused 5 OutOfPeriod")?;
+    let input = Stop::Fault(Fault::Input);
+    complains(&rt, alloc, input, None, "fault 23 Input")?;
     Ok(())
 }
 
@@ -64,7 +53,8 @@ fn statuses_of_runs(rt: HostRuntime) {
     let alloc = rt.alloc();
     assert!(rt; status_after(alloc, &mut Watched::new(FIRST_RUN.as_bytes())) == 0);
     assert!(rt; status_after(alloc, &mut Watched::new(b"kind\n".as_slice())) == 2);
-    assert!(rt; status_after(alloc, &mut Source::new(FIRST_RUN.as_bytes(), true)) == 1);
+    let mut failing = Watched::new(Source::new(FIRST_RUN.as_bytes(), FAILING));
+    assert!(rt; status_after(alloc, &mut failing) == 1);
 }
 
 // The exit status after a stop.

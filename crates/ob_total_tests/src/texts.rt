@@ -44,12 +44,8 @@ fn first_run_past_its_span(rt: HostRuntime) -> Result<(), Fail> {
     let last = "switch,E4,B1,close,7200,3,K1,\n";
     let front = FIRST_RUN.strip_suffix(last).unwrap_or("");
     let text = joined(rt.alloc(), front, "switch,E4,B1,close,10000,3,K1,\n")?;
-    says(
-        &rt,
-        rt.alloc(),
-        text.as_bytes(),
-        "refused 5 OutOfPeriod row 24",
-    )
+    let wanted = "refused 5 OutOfPeriod row 24";
+    says(&rt, rt.alloc(), text.as_bytes(), wanted)
 }
 
 // Checks the first example followed by these rows.
@@ -59,20 +55,15 @@ fn first_run_and(rt: &impl Abort, alloc: Global, rows: &str, wanted: &str) -> Re
 }
 
 // The tie's life ends at 6000, so three customers lose supply for 4,000 seconds; then the life is
-// set without an end.
+// set without an end. The life of another device to the first section begins at 5000: its two
+// customers have supply 2,200 seconds earlier.
 #[test]
-fn first_run_without_its_tie(rt: HostRuntime) -> Result<(), Fail> {
+fn first_run_with_other_lives(rt: HostRuntime) -> Result<(), Fail> {
     let ends = "life,L1,T1,,6000,,,\n";
     let stands_again = "life,L1,T1,,6000,,,\nlife,L2,T1,,,,,\n";
-    first_run_and(&rt, rt.alloc(), ends, "W 21000")?;
-    first_run_and(&rt, rt.alloc(), stands_again, "W 9000")
-}
-
-// The life of another device to the first section begins at 5000: its two customers have supply
-// 2,200 seconds earlier.
-#[test]
-fn first_run_with_one_device_more(rt: HostRuntime) -> Result<(), Fail> {
     let joins = "device,N1,X1,BUS-A,S1,closed,5000,\n";
+    first_run_and(&rt, rt.alloc(), ends, "W 21000")?;
+    first_run_and(&rt, rt.alloc(), stands_again, "W 9000")?;
     first_run_and(&rt, rt.alloc(), joins, "W 4600")
 }
 

@@ -1,45 +1,16 @@
 //! Tests of the arguments of the command line.
 use ob_cli::{Job, WrongWords, read_words};
 use std::alloc::{AllocError, Global};
+use std::process::Abort;
 
-// Answers whether arguments are refused with a message that contains this text.
-fn are_refused(alloc: Global, words: &[&str], told: &str) -> bool {
+// What the program makes of arguments: a job, help, its version or a refusal; and the text of that.
+fn answer(alloc: Global, words: &[&str]) -> Result<(&'static str, String), AllocError> {
     match read_words(alloc, words) {
-        Err(WrongWords::Wrong(text)) => text.contains(told),
-        Err(WrongWords::Help(_text)) => false,
-        Err(WrongWords::Version(_text)) => false,
-        Err(WrongWords::Fault(_fault)) => false,
-        Ok(_job) => false,
-    }
-}
-
-// Answers whether arguments ask for help, and the help contains this text.
-fn show(alloc: Global, words: &[&str], told: &str) -> bool {
-    match read_words(alloc, words) {
-        Err(WrongWords::Help(text)) => text.contains(told),
-        Err(WrongWords::Version(_text)) => false,
-        Err(WrongWords::Wrong(_text)) => false,
-        Err(WrongWords::Fault(_fault)) => false,
-        Ok(_job) => false,
-    }
-}
-
-// Answers whether arguments ask for the version, and exactly this text is printed.
-fn tell_version(alloc: Global, words: &[&str], told: &str) -> bool {
-    match read_words(alloc, words) {
-        Err(WrongWords::Version(text)) => text.as_str() == told,
-        Err(WrongWords::Help(_text)) => false,
-        Err(WrongWords::Wrong(_text)) => false,
-        Err(WrongWords::Fault(_fault)) => false,
-        Ok(_job) => false,
-    }
-}
-
-// The job that arguments name, in words, or nothing.
-fn job_of(alloc: Global, words: &[&str]) -> Result<String, AllocError> {
-    match read_words(alloc, words) {
-        Ok(job) => told(alloc, &job),
-        Err(_wrong) => Ok(String::new(alloc)),
+        Ok(job) => Ok(("job", told(alloc, &job)?)),
+        Err(WrongWords::Help(text)) => Ok(("help", text)),
+        Err(WrongWords::Version(text)) => Ok(("version", text)),
+        Err(WrongWords::Wrong(text)) => Ok(("wrong", text)),
+        Err(WrongWords::Fault(_fault)) => Err(AllocError),
     }
 }
 
@@ -94,13 +65,9 @@ outagebook serve --streams=18446744073709551615 --port 65535 --book a.db => serv
 
 #[test]
 fn reads_jobs(rt: HostRuntime) -> Result<(), AllocError> {
-    for line in JOBS.lines() {
-        let (words, wanted) = line.split_once(" => ").unwrap_or((line, ""));
-        let found = job_of(rt.alloc(), &words_of(rt.alloc(), words)?)?;
-        assert!(rt; found.as_str() == wanted, "{line}: {found}");
-    }
-    let spaced = job_of(rt.alloc(), &["outagebook", "table", "--book", "a b.db"])?;
-    assert!(rt; spaced.as_str() == "table a b.db -");
+    are_answered(&rt, rt.alloc(), "job", JOBS)?;
+    let (kind, job) = answer(rt.alloc(), &["outagebook", "table", "--book", "a b.db"])?;
+    assert!(rt; kind == "job" && job.as_str() == "table a b.db -");
     Ok(())
 }
 
@@ -163,34 +130,47 @@ fn words_of<'t>(alloc: Global, line: &'t str) -> Result<Vec<&'t str>, AllocError
     Ok(words)
 }
 
-#[test]
-fn refuses_words(rt: HostRuntime) -> Result<(), AllocError> {
-    assert!(rt; are_refused(rt.alloc(), &[], "Usage: outagebook"));
-    for line in REFUSED.lines() {
-        let (words, told) = line.split_once(" => ").unwrap_or((line, ""));
-        let words = words_of(rt.alloc(), words)?;
-        assert!(rt; are_refused(rt.alloc(), &words, told), "{line}");
+// Checks what the program makes of the arguments of a line: the whole text that names a job, and a
+// part of any other text.
+fn is_answered(rt: &impl Abort, alloc: Global, kind: &str, line: &str) -> Result<(), AllocError> {
+    let (words, wanted) = line.split_once(" => ").unwrap_or((line, ""));
+    let (found, text) = answer(alloc, &words_of(alloc, words)?)?;
+    assert!(rt; found == kind && text.contains(wanted), "{line}: {text}");
+    assert!(rt; kind != "job" || text.as_str() == wanted, "{line}: {text}");
+    Ok(())
+}
+
+fn are_answered(rt: &impl Abort, alloc: Global, kind: &str, lines: &str) -> Result<(), AllocError> {
+    for line in lines.lines() {
+        is_answered(rt, alloc, kind, line)?;
     }
     Ok(())
 }
 
 #[test]
+fn refuses_words(rt: HostRuntime) -> Result<(), AllocError> {
+    let (kind, text) = answer(rt.alloc(), &[])?;
+    assert!(rt; kind == "wrong" && text.contains("Usage: outagebook"));
+    are_answered(&rt, rt.alloc(), "wrong", REFUSED)
+}
+
+#[test]
 fn shows_help(rt: HostRuntime) -> Result<(), AllocError> {
-    for line in HELP.lines() {
-        let (words, told) = line.split_once(" => ").unwrap_or((line, ""));
-        let words = words_of(rt.alloc(), words)?;
-        assert!(rt; show(rt.alloc(), &words, told), "{line}");
-    }
-    Ok(())
+    are_answered(&rt, rt.alloc(), "help", HELP)
 }
 
 // The version that is printed: the program's, and that of its books.
 const VERSION: &str = "outagebook 2 (books of version 2)\n";
 
 #[test]
-fn tells_its_version(rt: HostRuntime) {
-    let alloc = rt.alloc();
-    assert!(rt; tell_version(alloc, &["outagebook", "--version"], VERSION));
-    assert!(rt; tell_version(alloc, &["outagebook", "-V"], VERSION));
-    assert!(rt; tell_version(alloc, &["outagebook", "--version", "table"], VERSION));
+fn tells_its_version(rt: HostRuntime) -> Result<(), AllocError> {
+    for words in [
+        "outagebook --version",
+        "outagebook -V",
+        "outagebook --version table",
+    ] {
+        let (kind, text) = answer(rt.alloc(), &words_of(rt.alloc(), words)?)?;
+        assert!(rt; kind == "version" && text.as_str() == VERSION);
+    }
+    Ok(())
 }

@@ -46,6 +46,11 @@ fn commands(rt: HostRuntime) -> Result<(), Fail> {
 // Bodies that are no command, and the column that is bad.
 const BAD_BODIES: &'static str = r#"{ => 0
 [] => 0
+null => 0
+{"kind":"cause","ref":"R1","f1":"3","f2":"STORM"} x => 0
+{"kind":"cause","f1":"3","f2":"STORM"} => 2
+{"kind":"cause","ref":"R1","f1":"64","f2":"STORM"} => 3
+{"kind":"cause","ref":"R1","f1":"3"} => 4
 {"kind":"fuse","f7":""} => 0
 {"kind":1,"Ref":2} => 0
 {} => 1
@@ -74,14 +79,12 @@ fn is_bad(rt: &impl Abort, alloc: Global, body: &[u8], column: u8) {
 fn bad_bodies(rt: HostRuntime) -> Result<(), Fail> {
     for line in BAD_BODIES.lines() {
         let (body, column) = line.split_once(" => ").ok_or("a line")?;
-        let column = column
-            .bytes()
-            .next()
-            .ok_or("a column")?
-            .saturating_sub(b'0');
-        is_bad(&rt, rt.alloc(), body.as_bytes(), column);
+        let digit = column.bytes().next().ok_or("a column")?;
+        is_bad(&rt, rt.alloc(), body.as_bytes(), digit.saturating_sub(b'0'));
     }
     is_bad(&rt, rt.alloc(), b"", 0);
+    is_bad(&rt, rt.alloc(), &[b'['; 200], 0);
+    is_bad(&rt, rt.alloc(), b"{\"kind\":\"\xff\"}", 0);
     is_bad(&rt, rt.alloc(), b"\"\xff\"", 0);
     is_bad(&rt, rt.alloc(), b"\xef\xbb\xbf{}", 0);
     Ok(())

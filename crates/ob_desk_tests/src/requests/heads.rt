@@ -1,8 +1,8 @@
 //! Tests of the requests that heads make, and of heads that are refused.
 use crate::requests::reading::{are_read, is_read};
 use crate::script::Many;
-use crate::streams::{WHOLE, Way};
-use crate::texts::request;
+use crate::streams::pieces;
+use crate::texts::{STORM, request};
 use ob_requests::Method;
 use std::alloc::{AllocError, Global};
 use std::process::Abort;
@@ -47,16 +47,20 @@ fn heads(rt: HostRuntime) -> Result<(), AllocError> {
         let line = line.replace(rt.alloc(), "|", "\r\n")?;
         let (bytes, told) = line.split_once(" => ").unwrap_or(("", ""));
         for step in [4096, 1] {
-            let way = Way { step, ..WHOLE };
-            are_read(&rt, rt.alloc(), bytes.as_bytes(), &way, told)?;
+            are_read(&rt, rt.alloc(), bytes.as_bytes(), &pieces(step), told)?;
         }
     }
     Ok(())
 }
 
-/// Texts with a repeated middle part, and how they are read: with 64 field lines and 65, with
-/// 16,383 bytes of a head and 16,384 that don't end it, and with 16,384 bytes that do and one more.
+/// Texts with a repeated middle part, and how they are read: three requests, one with LF alone; then
+/// heads with 64 field lines and 65, with 16,383 bytes of a head and 16,384 that don't end it, and
+/// with 16,384 bytes that do and one more.
 const BOUNDS: &[(Many, &'static str)] = &[
+    (
+        (STORM, b"GET /totals HTTP/1.1\nHost: a\n\n", 1, STORM),
+        "POST /commands 49;GET /totals 0;POST /commands 49;end",
+    ),
     (
         (b"GET /a HTTP/1.1\r\nHost: a\r\n", b"A:\r\n", 63, b"\r\n"),
         "GET /a 0;end",
@@ -77,16 +81,10 @@ const BOUNDS: &[(Many, &'static str)] = &[
     ),
 ];
 
-// In pieces of 4,096 bytes.
-const IN_PIECES: Way = Way {
-    step: 4_096,
-    ..WHOLE
-};
-
 #[test]
 fn heads_at_the_bounds(rt: HostRuntime) -> Result<(), AllocError> {
     for (parts, told) in BOUNDS {
-        is_read(&rt, rt.alloc(), parts, &IN_PIECES, told)?;
+        is_read(&rt, rt.alloc(), parts, &pieces(4_096), told)?;
     }
     Ok(())
 }

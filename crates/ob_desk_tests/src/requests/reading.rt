@@ -1,8 +1,8 @@
 //! How a stream is read, shown as a text.
 use crate::script::Many;
-use crate::streams::{Sink, Source, Way};
-use crate::texts::{digits, joined, many};
-use ob_base::Fault;
+use crate::streams::Ways;
+use crate::texts::many;
+use ob_harness::{Sink, Source};
 use ob_requests::{Ahead, HeadRefusal, Method, Next, Request, read_request};
 use ob_stream::{Retries, Watched};
 use std::alloc::{AllocError, Global};
@@ -15,13 +15,10 @@ fn told_request(alloc: Global, request: &Request) -> Result<String, AllocError> 
         Method::Get => "GET ",
         Method::Post => "POST ",
     };
-    let length = digits(alloc, request.body.len())?;
+    let (target, length) = (request.target.as_str(), request.body.len());
     let waits = if request.waits { " waits" } else { "" };
     let closes = if request.closes { " closes" } else { "" };
-    joined(
-        alloc,
-        &[method, &request.target, " ", &length, waits, closes, ";"],
-    )
+    format!(in alloc; "{method}{target} {length}{waits}{closes};")
 }
 
 fn told_refusal(status: HeadRefusal) -> &'static str {
@@ -31,14 +28,6 @@ fn told_refusal(status: HeadRefusal) -> &'static str {
         HeadRefusal::LengthRequired => "411",
         HeadRefusal::PayloadTooLarge => "413",
         HeadRefusal::FieldsTooLarge => "431",
-    }
-}
-
-fn told_fault(fault: Fault) -> &'static str {
-    match fault {
-        Fault::Input => "input",
-        Fault::Output => "output",
-        _ => "other",
     }
 }
 
@@ -74,7 +63,7 @@ fn told_requests(
             Ok(Next::Refused(status)) => return told.push_str(told_refusal(status)),
             Ok(Next::End) => return told.push_str("end"),
             Ok(Next::Cut) => return told.push_str("cut"),
-            Err(fault) => return told.push_str(told_fault(fault)),
+            Err(_) => return told.push_str("fault"),
         }
     }
     Ok(())
@@ -86,10 +75,11 @@ pub fn are_read(
     rt: &impl Abort,
     alloc: Global,
     bytes: &[u8],
-    way: &Way,
+    way: &Ways,
     told: &str,
 ) -> Result<(), AllocError> {
-    let found = told_of(alloc, Source::new(bytes, way), Sink::new(alloc, way))?;
+    let sink = Sink::new(alloc, way.room, way.writes);
+    let found = told_of(alloc, Source::new(bytes, way.reads), sink)?;
     assert!(rt; found.as_str() == told, "{found}, not {told}");
     Ok(())
 }
@@ -99,7 +89,7 @@ pub fn is_read(
     rt: &impl Abort,
     alloc: Global,
     parts: &Many,
-    way: &Way,
+    way: &Ways,
     told: &str,
 ) -> Result<(), AllocError> {
     let text = many(alloc, parts)?;

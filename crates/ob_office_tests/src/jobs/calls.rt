@@ -1,11 +1,10 @@
 //! The jobs, and how each ends with a `Keeper`.
-use crate::jobs::host::{FULL, Input, Output, Server};
+use crate::jobs::host::{Input, Output, Server};
 use crate::office::Period;
-use crate::sinks::Sink;
-use crate::sources::{Source, WHOLE};
-use crate::texts::OUTAGE;
 use ob_base::{Fault, Stop};
 use ob_cli::{Unfinished, status_of_run};
+use ob_harness::texts::OUTAGE;
+use ob_harness::{FULL, Sink, Source, WHOLE};
 use ob_import::import_with_progress;
 use ob_jobs::{
     Silent, audit_book, export_from_book, import_into_book, make_book, migrate_book, print_book,

@@ -1,20 +1,11 @@
 //! The inputs, outputs and ports that the program gives to its jobs, in memory.
-use crate::sinks::Sink;
-use crate::sources::{Source, WHOLE, Way};
 use ob_base::{Fault, Stop};
+use ob_harness::{FULL, Sink, Source, WHOLE};
 use ob_jobs::{OpenInput, OpenOutput, ServeBook};
 use ob_store::Keeper;
 use ob_sweep::Timeline;
 use sqlite::Alter;
 use std::alloc::Global;
-use std::io::ErrorKind;
-
-/// In one piece, and then a failure.
-pub const FULL: Way = Way {
-    step: 1_000_000,
-    jolts: 0,
-    end: Some(ErrorKind::Other),
-};
 
 /// An input of this text, or one that can't be opened.
 #[derive(Drop)]

@@ -1,11 +1,10 @@
 //! Tests of the jobs with one allocation refused.
 use crate::jobs::calls::{Ask, Told};
-use crate::jobs::host::FULL;
 use crate::jobs::script::BAD_BOOK;
 use crate::office::{Office, Trial, over};
-use crate::sinks::Sink;
-use crate::texts::{OUTAGE, TO_VERSION_1};
 use ob_base::Stop;
+use ob_harness::texts::{OUTAGE, TO_VERSION_1};
+use ob_harness::{FULL, Sink};
 use sqlite::{Alter, Connection};
 use std::alloc::{AllocError, Global};
 use std::process::Abort;

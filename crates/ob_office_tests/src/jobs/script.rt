@@ -1,10 +1,9 @@
 //! Steps on a store in memory, one after another, and the answer to each.
 use crate::jobs::calls::{Ask, Halt, Told};
-use crate::jobs::host::FULL;
 use crate::office::{Office, Trial, over};
-use crate::sinks::Sink;
-use crate::texts::OUTAGE;
 use ob_base::{Fault, Refusal, Stop};
+use ob_harness::texts::OUTAGE;
+use ob_harness::{FULL, Sink};
 use sqlite::{Alter, Connection};
 use std::alloc::Global;
 use std::process::Abort;

@@ -3,14 +3,20 @@ use crate::jobs::calls::Ask;
 use crate::jobs::script::{
     BAD_BOOK, FILLED, INPUT, MADE, OLD_VERSION, OUTPUT, SOUND, Step, are_done,
 };
-use crate::texts::{ONE_NAME_TWICE, OUTAGE, TO_VERSION_1};
 use ob_base::{Refusal, Stop};
+use ob_harness::texts::{ONE_NAME_TWICE, OUTAGE, TO_VERSION_1};
 
 const BAD_PERIOD: Step = Step::Do(
     Ask::Make(0),
     2,
     Some((Stop::Refused(Refusal::BadPeriod), None)),
     "",
+);
+
+// Prints the table of the outage.
+const PRINTED: Step = Step::Begin(
+    Ask::Print,
+    "OUTAGE BOOK 2024-01-01 days 1 zone UTC0\nP 86400 S 864000 W 9000\n",
 );
 
 // Each job on an existing book. Then each on a book whose heading has version 1, which is checked
@@ -33,10 +39,7 @@ const BOOK: &[Step] = &[
     Step::Do(Ask::Export(Some(4_000)), 0, None, "rows 9\n"),
     Step::Do(Ask::Export(None), 1, OUTPUT, ""),
     Step::Do(Ask::Export(Some(40)), 1, OUTPUT, ""),
-    Step::Begin(
-        Ask::Print,
-        "OUTAGE BOOK 2024-01-01 days 1 zone UTC0\nP 86400 S 864000 W 9000\n",
-    ),
+    PRINTED,
     Step::Do(Ask::Serve(true), 0, None, ""),
     Step::Do(Ask::Serve(false), 1, INPUT, ""),
     SOUND,
@@ -81,10 +84,7 @@ const MIGRATED: &[Step] = &[
     Step::Do(Ask::Migrate, 0, None, "version 2\n"),
     Step::Do(Ask::Import(Some(OUTAGE)), 0, None, "added 0 again 25\n"),
     Step::Do(Ask::Export(Some(4_000)), 0, None, "rows 9\n"),
-    Step::Begin(
-        Ask::Print,
-        "OUTAGE BOOK 2024-01-01 days 1 zone UTC0\nP 86400 S 864000 W 9000\n",
-    ),
+    PRINTED,
     Step::Do(Ask::Migrate, 0, None, "version 2\n"),
     Step::Do(Ask::Serve(true), 0, None, ""),
 ];

@@ -1,8 +1,8 @@
 //! Tests of writers that fail after each byte of a line.
 use crate::jobs::calls::Ask;
 use crate::jobs::script::{FILLED, MADE, SOUND, Step, are_done};
-use crate::texts::{OUTAGE, TO_VERSION_1};
 use ob_base::Stop;
+use ob_harness::texts::{OUTAGE, TO_VERSION_1};
 
 // Jobs that leave the book as it is, and how the line that each prints begins; and the audit after
 // the writers have failed.

@@ -1,4 +1,4 @@
-//! Texts for imports.
+//! Texts of imports, and statements that change the tables they lead to.
 
 /// A cause, a bus, and two sections of one name.
 pub const ONE_NAME_TWICE: &'static str = "\
