@@ -33,6 +33,7 @@ module _ {S : Type 0} (g : Ghosts S) (new : KeeperValue S) (b : ActState) where
       (begins.2.commands, subst (Ties g new) begins.2.state ties)
   short_left methods.Post (Some routes.Import) body (inr (i, imports, ties)) =
       let so = imports_act b (after_header (rows_of body)) i imports in (so.0, subst (Ties g new) so.1 ties)
+  short_left methods.Post (Some routes.Plan) body ties = ([], ties)
   short_left methods.Post (Some (routes.Command number)) body h = absurd h
   short_left methods.Post (Some (routes.View view)) body h = absurd h
 
@@ -43,6 +44,7 @@ module _ {S : Type 0} (g : Ghosts S) (new : KeeperValue S) (b : ActState) where
   lost_left methods.Post (Some routes.Commands) body (a, says, keeps, none) = ([], inr (a, keeps))
   lost_left methods.Post (Some routes.Import) body (added, again, (c, later, a, begins, next, keeps, none)) =
       (begins.2.commands, subst (KeepsInWork g new) begins.2.state (inr (a, keeps)))
+  lost_left methods.Post (Some routes.Plan) body h = absurd h
   lost_left methods.Post (Some (routes.Command number)) body h = absurd h
   lost_left methods.Post (Some (routes.View view)) body h = absurd h
 

@@ -6,3 +6,4 @@ pub mod Breaking
 pub mod Serving
 pub mod Beginning
 pub mod Numbering
+pub mod Planning

@@ -7,8 +7,11 @@ use Rattle.ob_base.specs.declared.stop.Refusal.TheVariants.{OldVersion}
 use Rattle.ob_base.specs.declared.stop.Fault.TheVariants.{OutOfMemory, Store}
 use Rattle.ob_time.specs.Calendar.{Calendar}
 use Rattle.ob_time.specs.Period.{IsPeriodText}
+use Rattle.ob_command.specs.declared.command.Command.{Command}
 use Rattle.ob_csv.specs.Rows.{Fields}
+use Rattle.ob_state.specs.Refusals.{refusal}
 use Rattle.ob_book.specs.Acts.{ActState, Referenced, is_same, start}
+use Rattle.ob_book.specs.Forecasts.{forecast_text_of}
 use Rattle.ob_import.specs.Imports.{Says}
 use Rattle.ob_import.specs.Reports.{AreRows}
 use Rattle.ob_store.specs.Calls.{HasCommandCause, OpensAfter}
@@ -39,6 +42,10 @@ module _ {S M R : Type 0} (g : Ghosts S) (m : Ghosts M) (h : Ghosts R) where
   JoinLaw =
       (first next : List Told) (old : KeeperValue S) (mid : KeeperValue M) (new : KeeperValue R)
       → Goes g m first old mid → Goes m h next mid new → Goes g h (next ++ first) old new
+
+-- one of these books accepts the command, and the text says what it would do to it
+abbrev pub PlansOne : (ActState → Type 0) → Command → List ℕ → Type 0
+PlansOne Is command text = (x : ActState) × Is x × (refusal x.book command ≡ None) × (text ≡ forecast_text_of x.book command)
 
 module _ {S : Type 0} (g : Ghosts S) where
   -- a load finds one of these books, or tells that it is of version 1; or memory was refused, or the store failed

@@ -1,12 +1,12 @@
 //! The calls on the storage layer (`Keeper`), each as a part of a list of calls.
-ghost use Rattle.std.specs.Prelude.{[], ◌∷◌, List, Some, IsErr, option_map};
+ghost use Rattle.std.specs.Prelude.{[], ◌∷◌, List, Some, IfOk, IsErr, option_map};
 ghost use Rattle.ob_stream.specs.Watching.{watched_bytes};
 ghost use Rattle.ob_csv.specs.Rows.{rows_of};
 ghost use Rattle.ob_book.specs.Acts.{ActState};
 ghost use Rattle.ob_store.specs.Acting.{under};
 ghost use Rattle.ob_store.specs.Keepers.{IsClean, StoresNumbers};
 ghost use Rattle.ob_lists.specs.Standing.{MayBe, Stands, Told, served, told_by, told_by_import, told_by_stream};
-ghost use Rattle.ob_lists.specs.Going.{ActsForCause, Goes, LoadsOne};
+ghost use Rattle.ob_lists.specs.Going.{ActsForCause, Goes, LoadsOne, PlansOne};
 
 use ob_base::{Fault, Ref, Stop};
 use ob_command::Command;
@@ -68,6 +68,19 @@ pub fn reply_of<S: Alter, T: Timeline>(
     ensures { Goes S.Store S.Store [] keeper.old keeper.new }
 {
     keeper.reply_of(no)
+}
+
+/// Asks what a command would do. Nothing changes, and what is answered holds of one of the books
+/// that the calls may have left.
+pub fn plan<S: Alter, T: Timeline>(
+    keeper: &mut Keeper<S, T>,
+    command: &Command,
+) -> Result<Vec<u8>, Stop>
+    ensures goes { Goes S.Store S.Store [] keeper.old keeper.new }
+    ensures plans { (b : ActState) (told : List Told) → Stands S.Store (MayBe b told) keeper.old
+        → IfOk result (λ text. PlansOne (MayBe b told) command.now text.items) }
+{
+    keeper.plan(command)
 }
 
 /// Gives the amounts moved by the accepted commands to a sink.

@@ -12,8 +12,8 @@ mod laws;
 mod lists;
 
 pub use calls::{
-    act, audit, create_again, import, import_text, load, migrate, moves_out, reply_of, run_serve,
-    serve_stream,
+    act, audit, create_again, import, import_text, load, migrate, moves_out, plan, reply_of,
+    run_serve, serve_stream,
 };
 pub use laws::{join_law, restart_law, told_law};
 pub use lists::{

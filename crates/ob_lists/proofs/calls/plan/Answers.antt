@@ -1,0 +1,17 @@
+use Rattle.std.proofs.Common.{sym, subst}
+use Rattle.ob_store.specs.Keepers.{IsClean, KeeperValue}
+use Rattle.ob_lists.specs.Standing.{MayBe, Stands}
+use Rattle.ob_lists.proofs.Planning.{plans_one}
+use Rattle.ob_lists.proofs.calls.plan.Goals as goal
+
+pub returns-clause-goes : goal.returns-clause-goes
+returns-clause-goes g c =
+    let same = c.plan.ensures.same in
+    record {
+      clean = λ clean. subst (λ (k : KeeperValue g.row.S.Denot). IsClean g.S.Store k) same clean;
+      stands = λ clean b before stands. subst (λ (k : KeeperValue g.row.S.Denot). Stands g.S.Store (MayBe b before) k) (sym same) stands;
+    }
+
+pub returns-clause-plans : goal.returns-clause-plans
+returns-clause-plans g c = λ b told stands.
+    plans_one g.S.Store (MayBe b told) c.args.keeper.now (λ text. text.items) c.args.command.now c.plan.result c.plan.ensures.reopen.0 c.plan.ensures.refused c.plan.ensures.text stands
