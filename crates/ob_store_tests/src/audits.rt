@@ -2,7 +2,7 @@
 //! loaded.
 use crate::books::MARKED_BOOK;
 use crate::office::{BAD_BOOK, OLD_VERSION};
-use crate::steps::{Step, spoil, tell};
+use crate::steps::{Step, spoil};
 use ob_net::Stop;
 
 // After such a change no book is loaded.

@@ -156,8 +156,8 @@ const SPOILT: &[&'static str] = &[
     "UPDATE cmd SET body = 'life T1 0 -' WHERE id = 26",
     "UPDATE cmd SET body = 'cause 3  STORM' WHERE id = 1",
     "UPDATE cmd SET ref = 'N 1' WHERE id = 1",
-    // Other versions in the heading, a table of lives (with a row or without) in version 1, and missing
-    // tables.
+    // Other versions in the heading, a table of lives (with a row or without) in version 1, and
+    // missing tables.
     "UPDATE meta SET version = 0",
     "UPDATE meta SET version = 3",
     "CREATE TABLE life (device INTEGER PRIMARY KEY REFERENCES device (id), since INTEGER NOT NULL, until INTEGER) STRICT",
