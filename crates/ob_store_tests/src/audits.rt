@@ -2,104 +2,73 @@
 //! loaded.
 use crate::books::MARKED_BOOK;
 use crate::office::{BAD_BOOK, OLD_VERSION};
-use crate::steps::{Step, Story, spoil, tell};
+use crate::steps::{Step, spoil};
 use ob_net::Stop;
 
 // After such a change no book is loaded.
 const NO_BOOK_THEN: &[Step] = &[Step::Load(BAD_BOOK), Step::Has(false)];
 
-// A row is changed in each table, and the audit names the table.
-const CHANGED: &'static str = "\
-UPDATE meta SET days = 2 => moved
-UPDATE cause SET name = 'FLOOD' WHERE code = 3 => cause
-UPDATE node SET feeder = 2 WHERE name = 'S1' => node
-UPDATE device SET a = b, b = a WHERE name = 'T1' => device
-UPDATE life SET until = 1704153600 WHERE device = 4 => life
-UPDATE life SET since = 1 WHERE device = 0 => life
-UPDATE customer SET until = 1704153600 WHERE id = 1 => customer
-UPDATE entry SET kept = 0 WHERE id = 3 => entry
-UPDATE mark SET engineer = 'E2' => mark
-UPDATE cmd SET body = 'bus BUS-C' WHERE id = 3 => BadBook
-UPDATE moved SET delta = delta + 1 WHERE cmd = 22 AND dim = 2 => moved
-UPDATE posting SET amount = amount + 1 WHERE dim = 3 => posting
-";
-
-// A row is added to or deleted from each table.
-const MORE_OR_LESS: &'static str = "\
-DELETE FROM meta => BadBook
-DELETE FROM cause WHERE code = 4 => cause
-INSERT INTO node (id, name, kind, feeder) VALUES (9, 'S9', 2, 9) => node
-DELETE FROM life WHERE device = 0; DELETE FROM device WHERE name = 'I1' => device
-DELETE FROM life WHERE device = 4 => life
-DELETE FROM life => life
-DELETE FROM customer WHERE id = 10 => customer
-DELETE FROM entry WHERE id = 4 => entry
-INSERT INTO mark (day, engineer) VALUES (1, 'E1') => mark
-DELETE FROM cmd WHERE id = 26 => mark
-DELETE FROM cmd WHERE id = 20 => customer
-INSERT INTO moved (cmd, dim, k, delta) VALUES (26, 1, 3, 5) => moved
-DELETE FROM posting WHERE dim = 1 AND k = 63 => posting
-";
-
-// Another heading of the same period, and commands under other numbers.
-const RENAMED: &'static str = "\
-UPDATE meta SET version = 3 => meta
-UPDATE cmd SET id = 27 WHERE id = 26 => cmd
-";
-
-// Headings and commands that make no book, and missing tables.
-const NO_BOOK: &'static str = "\
-UPDATE meta SET day0 = '2024-1-1' => BadBook
-UPDATE meta SET days = 65537 => BadBook
-UPDATE meta SET zone = 'NOWHERE/AT/ALL' => BadBook
-UPDATE cmd SET ref = 'N 1' WHERE id = 1 => BadBook
-UPDATE cmd SET body = 'cause 3  STORM' WHERE id = 1 => BadBook
-DROP TABLE meta; CREATE VIEW meta AS SELECT 1 AS id, 1 AS version, '2024-01-01' AS day0, 1 AS days, 'UTC0' AS zone FROM cause => BadBook
-DROP TABLE mark => BadBook
-DROP TABLE life => BadBook
-DROP TABLE life; UPDATE meta SET version = 3 => BadBook
-";
-
-// The audit names the first of several changed tables.
-const SEVERAL: &'static str = "\
-UPDATE cmd SET body = 'cause 3 FLOOD' WHERE id = 1 => cause
-DELETE FROM moved; DELETE FROM posting; DELETE FROM mark => mark
-DELETE FROM posting; DELETE FROM moved => moved
-";
+// Changes of the tables, and the table that the audit then names.
+const SPOILT: &[&'static str] = &[
+    // A row is changed in each table.
+    "UPDATE meta SET days = 2 => moved",
+    "UPDATE cause SET name = 'FLOOD' WHERE code = 3 => cause",
+    "UPDATE node SET feeder = 2 WHERE name = 'S1' => node",
+    "UPDATE device SET a = b, b = a WHERE name = 'T1' => device",
+    "UPDATE life SET until = 1704153600 WHERE device = 4 => life",
+    "UPDATE life SET since = 1 WHERE device = 0 => life",
+    "UPDATE customer SET until = 1704153600 WHERE id = 1 => customer",
+    "UPDATE entry SET kept = 0 WHERE id = 3 => entry",
+    "UPDATE mark SET engineer = 'E2' => mark",
+    "UPDATE cmd SET body = 'bus BUS-C' WHERE id = 3 => BadBook",
+    "UPDATE moved SET delta = delta + 1 WHERE cmd = 22 AND dim = 2 => moved",
+    "UPDATE posting SET amount = amount + 1 WHERE dim = 3 => posting",
+    // A row is added to or deleted from each table.
+    "DELETE FROM meta => BadBook",
+    "DELETE FROM cause WHERE code = 4 => cause",
+    "INSERT INTO node (id, name, kind, feeder) VALUES (9, 'S9', 2, 9) => node",
+    "DELETE FROM life WHERE device = 0; DELETE FROM device WHERE name = 'I1' => device",
+    "DELETE FROM life WHERE device = 4 => life",
+    "DELETE FROM life => life",
+    "DELETE FROM customer WHERE id = 10 => customer",
+    "DELETE FROM entry WHERE id = 4 => entry",
+    "INSERT INTO mark (day, engineer) VALUES (1, 'E1') => mark",
+    "DELETE FROM cmd WHERE id = 26 => mark",
+    "DELETE FROM cmd WHERE id = 20 => customer",
+    "INSERT INTO moved (cmd, dim, k, delta) VALUES (26, 1, 3, 5) => moved",
+    "DELETE FROM posting WHERE dim = 1 AND k = 63 => posting",
+    // Another heading of the same period, and commands under other numbers.
+    "UPDATE meta SET version = 3 => meta",
+    "UPDATE cmd SET id = 27 WHERE id = 26 => cmd",
+    // Headings and commands that make no book, and missing tables.
+    "UPDATE meta SET day0 = '2024-1-1' => BadBook",
+    "UPDATE meta SET days = 65537 => BadBook",
+    "UPDATE meta SET zone = 'NOWHERE/AT/ALL' => BadBook",
+    "UPDATE cmd SET ref = 'N 1' WHERE id = 1 => BadBook",
+    "UPDATE cmd SET body = 'cause 3  STORM' WHERE id = 1 => BadBook",
+    "DROP TABLE meta; CREATE VIEW meta AS SELECT 1 AS id, 1 AS version, '2024-01-01' AS day0, 1 AS days, 'UTC0' AS zone FROM cause => BadBook",
+    "DROP TABLE mark => BadBook",
+    "DROP TABLE life => BadBook",
+    "DROP TABLE life; UPDATE meta SET version = 3 => BadBook",
+    // The audit names the first of several changed tables.
+    "UPDATE cmd SET body = 'cause 3 FLOOD' WHERE id = 1 => cause",
+    "DELETE FROM moved; DELETE FROM posting; DELETE FROM mark => mark",
+    "DELETE FROM posting; DELETE FROM moved => moved",
+];
 
 #[test]
-fn a_row_that_is_changed(rt: HostRuntime) -> Result<(), Stop> {
-    spoil(&rt, rt.alloc(), MARKED_BOOK, CHANGED, NO_BOOK_THEN)
-}
-
-#[test]
-fn rows_more_or_less(rt: HostRuntime) -> Result<(), Stop> {
-    spoil(&rt, rt.alloc(), MARKED_BOOK, MORE_OR_LESS, NO_BOOK_THEN)
-}
-
-#[test]
-fn another_heading_or_number(rt: HostRuntime) -> Result<(), Stop> {
-    spoil(&rt, rt.alloc(), MARKED_BOOK, RENAMED, NO_BOOK_THEN)
-}
-
-#[test]
-fn headings_and_commands_of_no_book(rt: HostRuntime) -> Result<(), Stop> {
-    spoil(&rt, rt.alloc(), MARKED_BOOK, NO_BOOK, NO_BOOK_THEN)
-}
-
-#[test]
-fn several_tables_that_are_changed(rt: HostRuntime) -> Result<(), Stop> {
-    spoil(&rt, rt.alloc(), MARKED_BOOK, SEVERAL, NO_BOOK_THEN)
+fn tables_of_no_book(rt: HostRuntime) -> Result<(), Stop> {
+    spoil(&rt, rt.alloc(), MARKED_BOOK, SPOILT, NO_BOOK_THEN)
 }
 
 // Changes that make the tables those of version 1, whatever else they contain.
-const OLD: &'static str = "\
-UPDATE meta SET version = 1
-UPDATE meta SET version = 1, days = 0, zone = 'NOWHERE/AT/ALL'
-DROP TABLE life; UPDATE meta SET version = 1
-DROP TABLE posting; UPDATE meta SET version = 1
-DELETE FROM moved; DELETE FROM cmd; UPDATE meta SET version = 1
-";
+const OLD: &[&'static str] = &[
+    "UPDATE meta SET version = 1",
+    "UPDATE meta SET version = 1, days = 0, zone = 'NOWHERE/AT/ALL'",
+    "DROP TABLE life; UPDATE meta SET version = 1",
+    "DROP TABLE posting; UPDATE meta SET version = 1",
+    "DELETE FROM moved; DELETE FROM cmd; UPDATE meta SET version = 1",
+];
 
 // The audit and the load name the version.
 const OLD_THEN: &[Step] = &[
@@ -111,29 +80,4 @@ const OLD_THEN: &[Step] = &[
 #[test]
 fn tables_of_version_one(rt: HostRuntime) -> Result<(), Stop> {
     spoil(&rt, rt.alloc(), MARKED_BOOK, OLD, OLD_THEN)
-}
-
-// Databases with nothing or something else in them hold no book.
-const NONE: Story = Story {
-    book: &[],
-    cases: &[&[
-        Step::Audit("BadBook"),
-        Step::Load(BAD_BOOK),
-        Step::Has(false),
-        Step::Change("CREATE TABLE note (id INTEGER PRIMARY KEY) STRICT"),
-        Step::Audit("BadBook"),
-        Step::Load(BAD_BOOK),
-        Step::Has(false),
-        Step::Open,
-        Step::Change("CREATE TABLE meta (id INTEGER PRIMARY KEY) STRICT"),
-        Step::Audit("BadBook"),
-        Step::Load(BAD_BOOK),
-        Step::Has(false),
-    ]],
-    then: &[],
-};
-
-#[test]
-fn databases_of_something_else(rt: HostRuntime) -> Result<(), Stop> {
-    tell(&rt, rt.alloc(), NONE)
 }

@@ -22,8 +22,6 @@ mod migrations;
 #[cfg(test)]
 mod office;
 #[cfg(test)]
-mod old;
-#[cfg(test)]
 mod rows;
 #[cfg(test)]
 mod scripts;

@@ -4,8 +4,8 @@ use ob_book::Book;
 use ob_command::{Command, read_body};
 use ob_net::{Fault, Life, Ref, Refusal, Second, Stop};
 use ob_store::{Keeper, Reply};
-use ob_sweep::{Timeline, Windowed};
-use sqlite::{Alter, Connection, Error, MemStore};
+use ob_sweep::Windowed;
+use sqlite::{Connection, Error, MemStore};
 use std::alloc::{AllocError, Global};
 
 /// The tables aren't those of a book.
@@ -22,36 +22,6 @@ pub const REOPEN: Stop = Stop::Fault(Fault::Reopen);
 
 /// A fault of the store.
 const STORE: Stop = Stop::Fault(Fault::Store);
-
-/// Work on the tables between two `Keeper`s.
-#[derive(Clone, Copy)]
-pub enum Work {
-    /// Runs statements.
-    Run(&'static str),
-    /// Reads the rows of all tables.
-    Rows,
-    /// Reads the number that a query finds.
-    Find(&'static str),
-    /// Reads the number that each of these queries finds.
-    FindEach(&'static [&'static str]),
-}
-
-/// Rows and numbers read from the tables.
-#[derive(Drop)]
-pub struct Found {
-    pub rows: Vec<u8>,
-    pub numbers: Vec<i64>,
-}
-
-impl Found {
-    /// Nothing was read.
-    pub fn nothing(alloc: Global) -> Found {
-        Found {
-            rows: Vec::new(alloc),
-            numbers: Vec::new(alloc),
-        }
-    }
-}
 
 /// The calls of a `Keeper` over a store, without their contracts: with these each function that
 /// makes some calls takes long to prove.
@@ -87,34 +57,22 @@ pub trait Office: Drop {
     /// The totals, the indices and the annual table of the book, and the lives of its devices.
     fn texts(&self, alloc: Global) -> Result<Vec<u8>, Stop>;
 
-    /// Another `Keeper`, without a book, over the same tables after some work on them, and what
-    /// that work read.
-    fn again(self, alloc: Global, work: Work) -> Result<(Self, Found), Stop>;
-}
+    /// Another `Keeper`, without a book, over the same tables after some statements.
+    fn again(self, alloc: Global, sql: &str) -> Result<Self, Stop>;
 
-/// A store in which a new database begins.
-pub trait Blank: Alter + Drop {
-    /// A connection to an empty database.
-    fn connects(alloc: Global) -> Result<Connection<Self>, Stop>;
-}
+    /// Another `Keeper`, without a book, over the same tables, and the rows that these queries find.
+    fn rows(self, alloc: Global, queries: &[&'static str]) -> Result<(Self, Vec<u8>), Stop>;
 
-impl Blank for MemStore {
-    fn connects(alloc: Global) -> Result<Connection<MemStore>, Stop> {
-        match Connection::open_in_memory(alloc) {
-            Ok(conn) => Ok(conn),
-            Err(_) => Err(STORE),
-        }
-    }
+    /// Another `Keeper`, without a book, over the same tables, and the numbers that these queries
+    /// find.
+    fn numbers(self, alloc: Global, queries: &[&'static str]) -> Result<(Self, Vec<i64>), Stop>;
 }
 
 /// A `Keeper` over a store in memory.
 pub type InMemory = Keeper<MemStore, Windowed>;
 
 // A `Keeper` without a book, over a database.
-fn adopted<S: Alter + Drop, T: Timeline>(
-    alloc: Global,
-    conn: Connection<S>,
-) -> Result<Keeper<S, T>, Stop> {
+fn adopted(alloc: Global, conn: Connection<MemStore>) -> Result<InMemory, Stop> {
     if !conn.is_autocommit() {
         return Err(STORE);
     }
@@ -129,45 +87,8 @@ pub fn asked(line: &str) -> Option<(Ref, Command)> {
     Some((reference, command))
 }
 
-fn number<S: Alter>(conn: &mut Connection<S>, sql: &str) -> Result<i64, Error> {
+fn number(conn: &mut Connection<MemStore>, sql: &str) -> Result<i64, Error> {
     conn.query_row(sql, &[])?.get(0)
-}
-
-// Appends the number that a query finds to others.
-fn put_number<S: Alter>(
-    conn: &mut Connection<S>,
-    sql: &str,
-    numbers: &mut Vec<i64>,
-) -> Result<(), Stop> {
-    match number(conn, sql) {
-        Ok(number) => Ok(numbers.push(number)?),
-        Err(_) => Err(STORE),
-    }
-}
-
-// Does some work on the tables. Answers what it read.
-fn done<S: Alter>(alloc: Global, conn: &mut Connection<S>, work: Work) -> Result<Found, Stop> {
-    let mut found = Found::nothing(alloc);
-    match work {
-        Work::Run(sql) => match conn.execute_batch(sql) {
-            Ok(()) => Ok(found),
-            Err(_) => Err(STORE),
-        },
-        Work::Rows => {
-            put_rows(conn, &mut found.rows)?;
-            Ok(found)
-        }
-        Work::Find(sql) => {
-            put_number(conn, sql, &mut found.numbers)?;
-            Ok(found)
-        }
-        Work::FindEach(queries) => {
-            for sql in queries {
-                put_number(conn, sql, &mut found.numbers)?;
-            }
-            Ok(found)
-        }
-    }
 }
 
 // Appends a life to a text, with the largest number if it has no end.
@@ -176,7 +97,7 @@ fn put_life(alloc: Global, text: &mut Vec<u8>, life: Life) -> Result<(), AllocEr
     text.extend_from_slice(format!(in alloc; "{since} {until}\n")?.as_bytes())
 }
 
-fn texts_of<T: Timeline>(alloc: Global, book: &Book<T>) -> Result<Vec<u8>, Stop> {
+fn texts_of(alloc: Global, book: &Book<Windowed>) -> Result<Vec<u8>, Stop> {
     let mut text = book.totals_text()?;
     text.extend_from_slice(&book.indices_text()?)?;
     text.extend_from_slice(&book.annual_text()?)?;
@@ -186,9 +107,12 @@ fn texts_of<T: Timeline>(alloc: Global, book: &Book<T>) -> Result<Vec<u8>, Stop>
     Ok(text)
 }
 
-impl<S: Blank, T: Timeline> Office for Keeper<S, T> {
-    fn opens(alloc: Global) -> Result<Keeper<S, T>, Stop> {
-        adopted(alloc, S::connects(alloc)?)
+impl Office for InMemory {
+    fn opens(alloc: Global) -> Result<InMemory, Stop> {
+        match Connection::open_in_memory(alloc) {
+            Ok(conn) => adopted(alloc, conn),
+            Err(_) => Err(STORE),
+        }
     }
 
     fn makes(&mut self, first: &[u8], days: u16, zone: &[u8]) -> Result<(), Stop> {
@@ -238,9 +162,31 @@ impl<S: Blank, T: Timeline> Office for Keeper<S, T> {
         }
     }
 
-    fn again(self, alloc: Global, work: Work) -> Result<(Keeper<S, T>, Found), Stop> {
+    fn again(self, alloc: Global, sql: &str) -> Result<InMemory, Stop> {
         let mut conn = self.into_connection();
-        let found = done(alloc, &mut conn, work)?;
-        Ok((adopted(alloc, conn)?, found))
+        match conn.execute_batch(sql) {
+            Ok(()) => adopted(alloc, conn),
+            Err(_) => Err(STORE),
+        }
+    }
+
+    fn rows(self, alloc: Global, queries: &[&'static str]) -> Result<(InMemory, Vec<u8>), Stop> {
+        let (mut conn, mut rows) = (self.into_connection(), Vec::new(alloc));
+        for sql in queries {
+            put_rows(&mut conn, sql, &mut rows)?;
+        }
+        Ok((adopted(alloc, conn)?, rows))
+    }
+
+    fn numbers(
+        self,
+        alloc: Global,
+        queries: &[&'static str],
+    ) -> Result<(InMemory, Vec<i64>), Stop> {
+        let (mut conn, mut numbers) = (self.into_connection(), Vec::new(alloc));
+        for sql in queries {
+            numbers.push(number(&mut conn, sql).map_err(|_| STORE)?)?;
+        }
+        Ok((adopted(alloc, conn)?, numbers))
     }
 }

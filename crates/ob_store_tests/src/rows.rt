@@ -2,9 +2,9 @@
 use sqlite::{Alter, Connection, Error, Row};
 use std::alloc::AllocError;
 
-// The rows of each table by its key, with one space between the columns; the ten tables of both
-// versions come first.
-const QUERIES: &'static [&'static str] = &[
+/// The rows of each table by its key, with one space between the columns; the ten tables of both
+/// versions come first.
+pub const ROWS: &'static [&'static str] = &[
     "SELECT id || ' ' || version || ' ' || day0 || ' ' || days || ' ' || zone FROM meta",
     "SELECT code || ' ' || name FROM cause ORDER BY code",
     "SELECT id || ' ' || name || ' ' || kind || ' ' || feeder FROM node ORDER BY id",
@@ -21,17 +21,9 @@ const QUERIES: &'static [&'static str] = &[
     "SELECT device || ' ' || since || ' ' || coalesce(until, '-') FROM life ORDER BY device",
 ];
 
-/// Appends the rows of all tables to a text. For a missing table, that is written in place of its
-/// rows.
-pub fn put_rows<S: Alter>(conn: &mut Connection<S>, text: &mut Vec<u8>) -> Result<(), AllocError> {
-    for sql in QUERIES {
-        put_table(conn, sql, text)?;
-    }
-    Ok(())
-}
-
-// Appends the rows that a query finds to others.
-fn put_table<S: Alter>(
+/// Appends the rows that a query finds to others. For a missing table, that is written in place of
+/// its rows.
+pub fn put_rows<S: Alter>(
     conn: &mut Connection<S>,
     sql: &str,
     text: &mut Vec<u8>,

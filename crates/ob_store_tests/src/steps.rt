@@ -1,5 +1,6 @@
 //! Steps with a `Keeper` over a store in memory, one after another, and the answer to each.
-use crate::office::{Found, InMemory, Office, Work};
+use crate::office::{InMemory, Office};
+use crate::rows::ROWS;
 use crate::texts::{answer_text, stored_text};
 use ob_net::Stop;
 use std::alloc::Global;
@@ -52,115 +53,65 @@ pub enum Step {
 /// A new book of 2024-01-01 in UTC.
 pub const NEW: Step = Step::Make(b"2024-01-01", 1, b"UTC0", Ok(()));
 
-// What the steps noted.
+// What the steps noted, and the last script or change of the tables.
 #[derive(Drop)]
 struct Noted {
     shown: Vec<u8>,
-    found: Found,
+    rows: Vec<u8>,
+    last: &'static str,
 }
 
-impl Noted {
-    fn nothing(alloc: Global) -> Noted {
-        Noted {
-            shown: Vec::new(alloc),
-            found: Found::nothing(alloc),
-        }
-    }
-}
-
-/// Several cases, each for a `Keeper` of its own over an empty store in memory: first the steps of
-/// a book, then those of the case, then those that follow each case.
-#[derive(Clone, Copy)]
-pub struct Story {
-    pub book: &'static [Step],
-    pub cases: &'static [&'static [Step]],
-    pub then: &'static [Step],
-}
-
-/// Checks each case of a story. The message about a failed step has the text of the last script or
-/// change of the tables in the case.
-pub fn tell(rt: &impl Abort, alloc: Global, story: Story) -> Result<(), Stop> {
-    for case in story.cases {
-        is_told::<InMemory>(rt, alloc, title_of(case), &[story.book, *case, story.then])?;
+/// Checks steps, one part after another, with a `Keeper` over an empty store in memory. The message
+/// about a failed step has the text of the last script or change of the tables.
+pub fn tell(rt: &impl Abort, alloc: Global, parts: &[&[Step]]) -> Result<(), Stop> {
+    let mut noted = Noted {
+        shown: Vec::new(alloc),
+        rows: Vec::new(alloc),
+        last: "",
+    };
+    let mut office = InMemory::opens(alloc)?;
+    for steps in parts {
+        office = goes_on(rt, alloc, office, &mut noted, steps)?;
     }
     Ok(())
 }
 
-/// Checks each line of a text, a change of the tables of a book and, after ` => `, the answer to an
-/// audit then; and the steps that follow each.
+/// Checks each change of the tables of a book and, after ` => `, the answer to an audit then; and
+/// the steps that follow each.
 pub fn spoil(
     rt: &impl Abort,
     alloc: Global,
     book: &[Step],
-    lines: &'static str,
+    changes: &[&'static str],
     then: &[Step],
 ) -> Result<(), Stop> {
-    for line in lines.lines() {
-        match line.split_once(" => ") {
+    for change in changes {
+        match change.split_once(" => ") {
             Some((sql, wanted)) => {
-                let case = &[Step::Change(sql), Step::Audit(wanted)];
-                is_told::<InMemory>(rt, alloc, sql, &[book, case, then])?;
+                tell(
+                    rt,
+                    alloc,
+                    &[book, &[Step::Change(sql), Step::Audit(wanted)], then],
+                )?
             }
-            None => is_told::<InMemory>(rt, alloc, line, &[book, &[Step::Change(line)], then])?,
+            None => tell(rt, alloc, &[book, &[Step::Change(*change)], then])?,
         }
     }
     Ok(())
 }
 
-/// Checks scripts on a book, one after another: the lines get the answers in them, another `Keeper`
-/// loads the book that each leaves, and in the end it has these numbers of rows and this total.
+/// Checks a script on a book that another `Keeper` loads, as it does what the script leaves; that
+/// has these numbers of rows and this total.
 pub fn leave(
     rt: &impl Abort,
     alloc: Global,
     book: &[Step],
-    scripts: &[&'static str],
+    script: &'static str,
     rows: &'static [i64],
     total: i64,
 ) -> Result<(), Stop> {
-    left::<InMemory>(rt, alloc, book, scripts, &[Step::Leave(rows, total)])
-}
-
-fn left<O: Office>(
-    rt: &impl Abort,
-    alloc: Global,
-    book: &[Step],
-    scripts: &[&'static str],
-    then: &[Step],
-) -> Result<(), Stop> {
-    let mut noted = Noted::nothing(alloc);
-    let mut office = goes_on(rt, alloc, O::opens(alloc)?, &mut noted, "book", book)?;
-    for script in scripts {
-        let steps = &[Step::Tell(*script), Step::Reopen];
-        office = goes_on(rt, alloc, office, &mut noted, *script, steps)?;
-    }
-    goes_on(rt, alloc, office, &mut noted, "rows", then)?;
-    Ok(())
-}
-
-fn title_of(case: &[Step]) -> &'static str {
-    let mut title = "";
-    for step in case {
-        match step {
-            Step::Change(text) | Step::Tell(text) => title = *text,
-            _ => {}
-        }
-    }
-    title
-}
-
-// Checks steps, one part after another, with a `Keeper` over an empty store.
-fn is_told<O: Office>(
-    rt: &impl Abort,
-    alloc: Global,
-    text: &str,
-    parts: &[&[Step]],
-) -> Result<(), Stop> {
-    let mut noted = Noted::nothing(alloc);
-    let mut office = O::opens(alloc)?;
-    for steps in parts {
-        office = goes_on(rt, alloc, office, &mut noted, text, steps)?;
-    }
-    Ok(())
+    let told = &[Step::Reopen, Step::Tell(script), Step::Reopen];
+    tell(rt, alloc, &[book, told, &[Step::Leave(rows, total)]])
 }
 
 fn goes_on<O: Office>(
@@ -168,13 +119,16 @@ fn goes_on<O: Office>(
     alloc: Global,
     office: O,
     noted: &mut Noted,
-    text: &str,
     steps: &[Step],
 ) -> Result<O, Stop> {
     let mut office = office;
     for (place, step) in steps.iter().enumerate() {
+        if let Step::Change(text) | Step::Tell(text) = step {
+            noted.last = *text;
+        }
         let (next, holds) = taken(rt, alloc, office, noted, step)?;
-        assert!(rt; holds, "{text}: step {place}, from 0");
+        let last = noted.last;
+        assert!(rt; holds, "{last}: step {place}, from 0");
         office = next;
     }
     Ok(office)
@@ -190,10 +144,21 @@ fn taken<O: Office>(
 ) -> Result<(O, bool), Stop> {
     match step {
         Step::Open => Ok((O::opens(alloc)?, true)),
-        Step::Change(sql) => changed(alloc, office, *sql),
+        Step::Change(sql) => Ok((office.again(alloc, *sql)?, true)),
         Step::Reopen => reopened(alloc, office, noted),
-        Step::NoteRows | Step::SameRows => rows(alloc, office, noted, step),
-        Step::Find(sql, wanted) => finds(alloc, office, Work::Find(*sql), &[*wanted]),
+        Step::NoteRows => {
+            let (again, rows) = office.rows(alloc, ROWS)?;
+            noted.rows = rows;
+            Ok((again, true))
+        }
+        Step::SameRows => {
+            let (again, rows) = office.rows(alloc, ROWS)?;
+            Ok((again, rows == noted.rows))
+        }
+        Step::Find(sql, wanted) => {
+            let (again, numbers) = office.numbers(alloc, &[*sql])?;
+            Ok((again, numbers.as_slice() == [*wanted].as_slice()))
+        }
         Step::Leave(rows, total) => leaves(alloc, office, rows, *total),
         _ => {
             let mut office = office;
@@ -277,43 +242,11 @@ fn is_same<O: Office>(alloc: Global, office: &mut O, noted: &Noted) -> Result<bo
     Ok(shown(alloc, office)? == noted.shown)
 }
 
-fn changed<O: Office>(alloc: Global, office: O, sql: &'static str) -> Result<(O, bool), Stop> {
-    let (again, _) = office.again(alloc, Work::Run(sql))?;
-    Ok((again, true))
-}
-
 fn reopened<O: Office>(alloc: Global, mut office: O, noted: &mut Noted) -> Result<(O, bool), Stop> {
     note(alloc, &mut office, noted)?;
-    let (mut again, _) = office.again(alloc, Work::Run(""))?;
+    let mut again = office.again(alloc, "")?;
     let is_sound = again.audits() == "none" && again.loads() == Ok(());
     let holds = is_sound && is_same(alloc, &mut again, noted)?;
-    Ok((again, holds))
-}
-
-// Notes the rows, or compares them with the noted ones.
-fn rows<O: Office>(
-    alloc: Global,
-    office: O,
-    noted: &mut Noted,
-    step: &Step,
-) -> Result<(O, bool), Stop> {
-    let (again, found) = office.again(alloc, Work::Rows)?;
-    if let Step::SameRows = step {
-        let holds = found.rows == noted.found.rows;
-        return Ok((again, holds));
-    }
-    noted.found = found;
-    Ok((again, true))
-}
-
-fn finds<O: Office>(
-    alloc: Global,
-    office: O,
-    work: Work,
-    wanted: &[i64],
-) -> Result<(O, bool), Stop> {
-    let (again, found) = office.again(alloc, work)?;
-    let holds = found.numbers.as_slice() == wanted;
     Ok((again, holds))
 }
 
@@ -323,14 +256,10 @@ fn leaves<O: Office>(
     rows: &[i64],
     total: i64,
 ) -> Result<(O, bool), Stop> {
-    let (office, are_counted) = finds(alloc, office, Work::FindEach(COUNTS), rows)?;
-    let (office, add_up) = finds(
-        alloc,
-        office,
-        Work::FindEach(SUMS),
-        &[total, total, total, 0],
-    )?;
-    Ok((office, are_counted && add_up))
+    let (office, counts) = office.numbers(alloc, COUNTS)?;
+    let (office, sums) = office.numbers(alloc, SUMS)?;
+    let add_up = sums.as_slice() == [total, total, total, 0].as_slice();
+    Ok((office, counts.as_slice() == rows && add_up))
 }
 
 /// The number of rows of each table.
