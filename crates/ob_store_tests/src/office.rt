@@ -87,6 +87,12 @@ pub fn asked(line: &str) -> Option<(Ref, Command)> {
     Some((reference, command))
 }
 
+// The plan of a command, by a function of its own: the prover can't borrow what it has just taken out
+// of an `Option`.
+fn planned(keeper: &mut InMemory, command: Command) -> Result<Vec<u8>, Stop> {
+    keeper.plan(&command)
+}
+
 fn number(conn: &mut Connection<MemStore>, sql: &str) -> Result<i64, Error> {
     conn.query_row(sql, &[])?.get(0)
 }
@@ -131,8 +137,10 @@ impl Office for InMemory {
     }
 
     fn plans(&mut self, line: &str) -> Result<Vec<u8>, Stop> {
-        let (_, command) = asked(line).ok_or(Stop::Refused(Refusal::BadField(0)))?;
-        self.plan(&command)
+        match asked(line) {
+            Some((_, command)) => planned(self, command),
+            None => Err(Stop::Refused(Refusal::BadField(0))),
+        }
     }
 
     fn replies(&mut self, no: u32) -> Result<Option<Reply>, Stop> {
