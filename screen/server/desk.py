@@ -13,6 +13,7 @@ from typing import Any
 import aiohttp
 
 ANSWER_SECONDS = 10.0
+LOOK_SECONDS = 3.0
 IMPORT_SECONDS = 300.0
 SEND_SECONDS = 25.0  # for all tries of a command
 BETWEEN_TRIES = 0.25
@@ -59,6 +60,17 @@ class Desk:
             self.why_away = None
             return answer
 
+    async def look(self, route: str, body: bytes | None = None) -> Answer:
+        """What changes nothing: it isn't asked of a desk that is known to be away, and waits a short time for its turn and
+        the answer."""
+        if self.url is None or self.why_away:
+            raise Away(self.why_away or "there is no desk")
+        try:
+            async with asyncio.timeout(LOOK_SECONDS):
+                return await self.ask("POST" if body else "GET", route, body)
+        except TimeoutError:
+            raise Away("the desk is busy") from None
+
     async def _once(self, method: str, url: str, body: bytes | None, seconds: float) -> Answer:
         limit = aiohttp.ClientTimeout(total=seconds)
         connector = aiohttp.TCPConnector(force_close=True, limit=1)
@@ -102,7 +114,7 @@ class OwnDesk:
     async def keep(self) -> None:
         """Starts the desk, and again each time it has ended."""
         while True:
-            why = await self._run_once()
+            why = await self.run_once()
             self.desk.url, self.desk.why_away = None, why
             if not self.first_start.done():
                 self.first_start.set_result(why)
@@ -110,7 +122,7 @@ class OwnDesk:
                 return
             await asyncio.sleep(self.BETWEEN_STARTS)
 
-    async def _run_once(self) -> str:
+    async def run_once(self) -> str:
         """Runs the desk until it ends: why it did."""
         words = [self.program, "serve", "--book", str(self.book), "--port", "0"]
         pipe = asyncio.subprocess.PIPE
@@ -125,6 +137,7 @@ class OwnDesk:
         line = (await self.process.stdout.readline()).decode(errors="replace").strip()
         if line.startswith("listening 127.0.0.1:"):
             self.desk.url, self.desk.why_away = f"http://{line.split()[1]}", None
+            self.is_here()
             if not self.first_start.done():
                 self.first_start.set_result(None)
         last = b""
@@ -132,6 +145,9 @@ class OwnDesk:
             last = said
         status = await self.process.wait()
         return f"the desk ended with status {status}: {last.decode(errors='replace').strip()}"
+
+    def is_here(self) -> None:
+        """The desk takes requests from now on."""
 
     async def end(self) -> None:
         if self.process is not None and self.process.returncode is None:

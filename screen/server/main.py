@@ -16,7 +16,8 @@ from .desk import Away, Desk, OwnDesk
 from .guard import Guard, Limits
 from .journal import Journal
 from .office import Office, new_state
-from .reader import BookError, Differs, Parser
+from .reader import BookError, Parser
+from .rehearsal import Rehearsal
 from .web import Settings, application
 
 FIRST_ANSWER_SECONDS = 600
@@ -101,11 +102,12 @@ async def serve(given: argparse.Namespace) -> None:
         asyncio.get_running_loop().add_signal_handler(each, ended.set)
     tasks: list[asyncio.Task[None]] = []
     desk, own = await start_desk(given, tasks)
+    book = given.book.resolve()
+    rehearsal = Rehearsal(given.program, book)
+    tasks.append(asyncio.create_task(rehearsal.keep()))
     try:
         log = given.log or given.book.with_name(f"{given.book.name}-screen.jsonl")
-        office = Office(
-            given.book.resolve(), new_state(given.book.resolve()), desk, Journal(None if given.no_desk else log)
-        )
+        office = Office(book, new_state(book), desk, rehearsal, Journal(None if given.no_desk else log))
         if desk is not None:
             office.note_start()
             tasks.append(asyncio.create_task(office.watch()))
@@ -114,8 +116,9 @@ async def serve(given: argparse.Namespace) -> None:
         for task in tasks:
             task.cancel()
         await asyncio.gather(*tasks, return_exceptions=True)
-        if own is not None:
-            await own.end()
+        for each_desk in (own, rehearsal):
+            if each_desk is not None:
+                await each_desk.end()
 
 
 async def listen(given: argparse.Namespace, office: Office, ended: asyncio.Event) -> None:
@@ -151,9 +154,6 @@ def main() -> int:
     logging.basicConfig(level=logging.ERROR)
     try:
         asyncio.run(serve(given))
-    except Differs as differs:
-        print(f"differs: {differs}", file=sys.stderr)
-        return 2
     except BookError as error:
         print(f"error: {error}", file=sys.stderr)
         return 1

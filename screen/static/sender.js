@@ -1,4 +1,4 @@
-// Commands on their way: what they would do, computed here; then, each under a reference of its own, the desk's answers. One
+// Commands on their way: what they would do, by the desk; then, each under a reference of its own, the desk's answers. One
 // command, or the steps of an outage, which go as one list.
 import { el, get, known, momentWords, newReference, onCommands, own, settled } from "./common.js";
 import { entryLinks, forecastParts, replyParts, same } from "./forecast.js";

@@ -113,7 +113,7 @@ async function show() {
       amountParts(shown),
     ),
     daysPart(shown),
-    foot(`Figures of the whole period are ${source()}${shown.to_now ? "; those up to now are computed here" : ""}.`),
+    foot(`Figures of the whole period are ${source()}${shown.to_now ? "; those up to now are these, less what outages count after that time" : ""}.`),
   );
 }
 

@@ -1,0 +1,218 @@
+"""A desk over a copy of the book, in a folder that goes away: steps are tried on it one after the other and taken back. It
+follows what the book's own desk accepts, and is asked what changes nothing while that one gives no answer."""
+
+from __future__ import annotations
+
+import asyncio
+import os
+import secrets
+import shutil
+import tempfile
+from collections import deque
+from collections.abc import AsyncIterator, Sequence
+from contextlib import asynccontextmanager
+from dataclasses import dataclass, replace
+from pathlib import Path
+from typing import Any
+
+from .answers import NotPlanned, Plan, Supply, command_body, moves_in, plan_in, supply_in
+from .apart import Apart
+from .desk import Answer, Away, Desk, OwnDesk
+from .reader import BookError, Command, Moves, copy_of, counts_of
+from .state import Refused
+
+MEMORY = Path("/dev/shm")
+READY_SECONDS = 12.0  # for one's turn, and for a copy that is being made
+MOST_LATER = 1_000  # commands that a copy follows; after more of them there is a new one
+MOST_MADE = 20_000  # entries that were tried and taken back in a copy: a book takes 50,000
+OPPOSITES = {"mark": "unmark", "unmark": "mark"}
+Step = Sequence[str]  # a command's kind and its fields
+Order = Sequence[int]  # places of steps
+
+
+@dataclass(frozen=True)
+class Tried:
+    """What a step would do, and the supply at its second before it, where that was looked at."""
+
+    plan: Plan
+    before: Supply | None
+
+
+def copied(book: Path) -> tuple[tempfile.TemporaryDirectory[str], int, int]:
+    """A folder with a copy of a book, in memory where there is some, and how many commands and entries it has."""
+    memory = MEMORY if os.access(MEMORY, os.W_OK) else None
+    folder = tempfile.TemporaryDirectory(prefix="screen-rehearsal-", dir=memory)
+    with copy_of(book) as copy:
+        commands, entries = counts_of(copy)
+        for file in copy.parent.glob("book.db*"):
+            if not file.name.endswith("-shm"):
+                shutil.copyfile(file, Path(folder.name) / file.name)
+    return folder, commands, entries
+
+
+class Rehearsal(OwnDesk):
+    def __init__(self, program: str, original: Path):
+        super().__init__(Desk(None), program, original)
+        self.original = original
+        self.copies = Apart("copies")
+        self.order = asyncio.Lock()
+        self.ready = asyncio.Event()
+        self.known = 0  # the last of the book's commands that the copy has
+        self.later: deque[tuple[Command, Moves]] = deque(maxlen=MOST_LATER)
+        self.entries: list[int] = []  # the copy's number of each of the book's entries
+        self.made = 0  # entries that the copy has
+
+    # The copy, and its following.
+
+    async def run_once(self) -> str:
+        self.later.clear()
+        try:
+            folder, self.known, self.made = await self.copies.run(copied, self.original)
+        except (BookError, OSError) as error:
+            return str(error)
+        self.entries = list(range(1, self.made + 1))
+        try:
+            self.book = Path(folder.name) / "book.db"
+            return await super().run_once()
+        finally:
+            self.ready.clear()
+            folder.cleanup()
+
+    def is_here(self) -> None:
+        self.ready.set()
+
+    def note(self, command: Command, moves: Moves) -> None:
+        """Has the copy follow a command that the desk accepted, before it is asked again."""
+        self.later.append((command, moves))
+
+    def throw_away(self) -> None:
+        """The copy isn't the book any more: another one is made."""
+        self.ready.clear()
+        if self.process is not None and self.process.returncode is None:
+            self.process.kill()
+
+    @asynccontextmanager
+    async def turn(self) -> AsyncIterator[None]:
+        """The copy for one question, as of the last command that is known. What breaks off in between leaves no copy."""
+        try:
+            async with asyncio.timeout(READY_SECONDS):
+                await self.order.acquire()
+        except TimeoutError:
+            raise Away("the copy of the desk is busy") from None
+        try:
+            await self.wait_for_copy()
+            await self.follow()
+            yield
+        except (Refused, NotPlanned):
+            raise
+        except BaseException:
+            self.throw_away()
+            raise
+        finally:
+            if self.made - len(self.entries) > MOST_MADE:
+                self.throw_away()
+            self.order.release()
+
+    async def wait_for_copy(self) -> None:
+        try:
+            async with asyncio.timeout(READY_SECONDS):
+                await self.ready.wait()
+        except TimeoutError:
+            raise Refused(f"the copy of the desk isn't ready: {self.desk.why_away or 'it is being made'}") from None
+
+    async def follow(self) -> None:
+        while self.later:
+            command, moves = self.later[0]
+            if command.number > self.known:
+                if (
+                    command.number > self.known + 1
+                    or await self.act(command.kind, command.fields, command.ref) != moves
+                ):
+                    raise Away(f"the copy of the desk could not follow command {command.number}")
+                self.known = command.number
+                if command.kind == "switch":
+                    self.entries.append(self.made)
+            self.later.popleft()
+
+    async def act(self, kind: str, fields: Sequence[str], ref: str = "") -> Moves:
+        """Sends a command to the copy for real."""
+        return await self.send(kind, self.own(kind, fields), ref or f"TRY-{secrets.token_hex(12).upper()}")
+
+    async def send(self, kind: str, fields: Sequence[str], ref: str) -> Moves:
+        answer = await self.desk.ask("POST", "/commands", command_body(kind, fields, ref))
+        if answer.status != 200:
+            raise Away(f"the copy of the desk refused {kind}: {answer.body.decode(errors='replace')}")
+        self.made += kind == "switch"
+        return moves_in(answer.json())
+
+    def own(self, kind: str, fields: Sequence[str]) -> Sequence[str]:
+        """The fields of a command with the copy's own number of an entry; those of an entry that isn't there stay."""
+        known = kind in ("correct", "withdraw") and fields[0].isdecimal() and int(fields[0]) in self.numbers
+        return [str(self.entries[int(fields[0]) - 1]), *fields[1:]] if known else fields
+
+    @property
+    def numbers(self) -> range:
+        """Of the book's entries."""
+        return range(1, len(self.entries) + 1)
+
+    # What is asked of it.
+
+    async def supply(self, second: int) -> Supply:
+        async with self.turn():
+            return await self.own_supply(second)
+
+    async def own_supply(self, second: int) -> Supply:
+        found = supply_in(await self.desk.ask("GET", f"/supply/{second}"))
+        numbers = {own: number for number, own in zip(self.numbers, self.entries)}
+        return replace(found, outages=[replace(row, entry=numbers.get(row.entry, 0)) for row in found.outages])
+
+    async def plan(self, kind: str, fields: Sequence[str]) -> Plan:
+        async with self.turn():
+            return await self.own_plan(kind, fields)
+
+    async def own_plan(self, kind: str, fields: Sequence[str]) -> Plan:
+        return plan_in(await self.desk.ask("POST", "/plan", command_body(kind, self.own(kind, fields))))
+
+    async def ask(self, route: str) -> Answer:
+        """A view of the whole book."""
+        async with self.turn():
+            return await self.desk.ask("GET", route)
+
+    async def indices_after(self, kind: str, fields: Sequence[str]) -> Any:
+        """The indices after a day is marked, or unmarked."""
+        async with self.turn():
+            await self.act(kind, fields)
+            found = (await self.desk.ask("GET", "/indices")).json()
+            await self.act(OPPOSITES[kind], fields)
+            return found
+
+    async def walk(self, steps: Sequence[Step], orders: Sequence[Order]) -> list[list[Tried]]:
+        """What each of some steps would do on what those before it leave, for each order of them; then all is taken back."""
+        async with self.turn():
+            return [await self.walk_once(steps, order) for order in orders]
+
+    async def walk_once(self, steps: Sequence[Step], order: Order) -> list[Tried]:
+        tried: list[Tried] = []
+        made: list[str] = []
+        try:
+            for place in order:
+                kind, *fields = steps[place]
+                try:
+                    plan = await self.own_plan(kind, fields)
+                except NotPlanned as refused:
+                    raise NotPlanned({**refused.reply, "step": place}) from None
+                tried.append(Tried(plan, await self.own_supply(int(fields[2])) if kind == "switch" else None))
+                if place != order[-1]:
+                    await self.act(kind, fields)
+                    made.append(kind)
+            return tried
+        finally:
+            await self.take_back(made)
+
+    async def take_back(self, kinds: Sequence[str]) -> None:
+        """Withdraws the switchings that were tried last; what else was tried leaves another book."""
+        if any(kind != "switch" for kind in kinds):
+            self.throw_away()
+        else:
+            for number in range(self.made, self.made - len(kinds), -1):
+                await self.send("withdraw", [str(number), "1"], f"BACK-{secrets.token_hex(12).upper()}")
