@@ -41,6 +41,7 @@ class Desk:
     def __init__(self, url: str | None):
         self.url = url
         self.why_away: str | None = None if url else "no desk has been started yet"
+        self.is_busy = False
         self.order = asyncio.Lock()
 
     async def ask(self, method: str, route: str, body: bytes | None = None, seconds: float = ANSWER_SECONDS) -> Answer:
@@ -57,18 +58,19 @@ class Desk:
             if answer.status == 503:
                 self.why_away = "the desk had a fault (503)"
                 raise Away(self.why_away)
-            self.why_away = None
+            self.why_away, self.is_busy = None, False
             return answer
 
     async def look(self, route: str, body: bytes | None = None) -> Answer:
-        """What changes nothing: it isn't asked of a desk that is known to be away, and waits a short time for its turn and
-        the answer."""
-        if self.url is None or self.why_away:
-            raise Away(self.why_away or "there is no desk")
+        """What changes nothing: it waits a short time for its turn and the answer. A desk that is away, or let others wait in
+        vain, isn't asked until it has answered something."""
+        if self.url is None or self.why_away or self.is_busy:
+            raise Away(self.why_away or "the desk is busy")
         try:
             async with asyncio.timeout(LOOK_SECONDS):
                 return await self.ask("POST" if body else "GET", route, body)
         except TimeoutError:
+            self.is_busy = True
             raise Away("the desk is busy") from None
 
     async def _once(self, method: str, url: str, body: bytes | None, seconds: float) -> Answer:
@@ -109,6 +111,7 @@ class OwnDesk:
     def __init__(self, desk: Desk, program: str, book: Path):
         self.desk, self.program, self.book = desk, program, book
         self.process: asyncio.subprocess.Process | None = None
+        self.is_final = False
         self.first_start: asyncio.Future[str | None] = asyncio.get_running_loop().create_future()
 
     async def keep(self) -> None:
@@ -118,7 +121,7 @@ class OwnDesk:
             self.desk.url, self.desk.why_away = None, why
             if not self.first_start.done():
                 self.first_start.set_result(why)
-            if self.process is None or self.process.returncode in self.FINAL:
+            if self.is_final:
                 return
             await asyncio.sleep(self.BETWEEN_STARTS)
 
@@ -132,6 +135,7 @@ class OwnDesk:
                 *words, stdout=pipe, stderr=pipe, preexec_fn=end_with_parent
             )
         except OSError as error:
+            self.is_final = True
             return f"the program {self.program} can't be run: {error.strerror}"
         assert self.process.stdout is not None and self.process.stderr is not None
         line = (await self.process.stdout.readline()).decode(errors="replace").strip()
@@ -144,6 +148,7 @@ class OwnDesk:
         async for said in self.process.stderr:
             last = said
         status = await self.process.wait()
+        self.is_final = status in self.FINAL
         return f"the desk ended with status {status}: {last.decode(errors='replace').strip()}"
 
     def is_here(self) -> None:

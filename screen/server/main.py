@@ -16,8 +16,9 @@ from .desk import Away, Desk, OwnDesk
 from .guard import Guard, Limits
 from .journal import Journal
 from .office import Office, new_state
-from .reader import BookError, Parser
+from .reader import BookError, Parser, read_later
 from .rehearsal import Rehearsal
+from .state import State
 from .web import Settings, application
 
 FIRST_ANSWER_SECONDS = 600
@@ -96,6 +97,18 @@ async def start_desk(given: argparse.Namespace, tasks: list[asyncio.Task[None]])
     return desk, own
 
 
+async def known_state(rehearsal: Rehearsal, book: Path) -> State:
+    """The rows of a book that is looked at without its desk; the copy has what they have."""
+    why = await rehearsal.first_start
+    if why:
+        raise BookError(why)
+    state = new_state(book)
+    for command, moves in read_later(book, rehearsal.known):
+        if command.number <= state.number:
+            rehearsal.note(command, moves)
+    return state
+
+
 async def serve(given: argparse.Namespace) -> None:
     ended = asyncio.Event()
     for each in (signal.SIGTERM, signal.SIGINT):
@@ -107,7 +120,8 @@ async def serve(given: argparse.Namespace) -> None:
     tasks.append(asyncio.create_task(rehearsal.keep()))
     try:
         log = given.log or given.book.with_name(f"{given.book.name}-screen.jsonl")
-        office = Office(book, new_state(book), desk, rehearsal, Journal(None if given.no_desk else log))
+        state = await known_state(rehearsal, book) if given.no_desk else new_state(book)
+        office = Office(book, state, desk, rehearsal, Journal(None if given.no_desk else log))
         if desk is not None:
             office.note_start()
             tasks.append(asyncio.create_task(office.watch()))

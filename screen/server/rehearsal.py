@@ -66,19 +66,21 @@ class Rehearsal(OwnDesk):
 
     async def run_once(self) -> str:
         self.later.clear()
+        self.desk.why_away = None
         try:
-            folder, self.known, self.made = await self.copies.run(copied, self.original)
+            self.folder, self.known, self.made = await self.copies.run(copied, self.original)
         except (BookError, OSError) as error:
             return str(error)
         self.entries = list(range(1, self.made + 1))
+        self.book = Path(self.folder.name) / "book.db"
         try:
-            self.book = Path(folder.name) / "book.db"
             return await super().run_once()
         finally:
             self.ready.clear()
-            folder.cleanup()
+            self.folder.cleanup()
 
     def is_here(self) -> None:
+        self.folder.cleanup()  # the desk has the files open: they go with it, however this process ends
         self.ready.set()
 
     def note(self, command: Command, moves: Moves) -> None:
