@@ -18,7 +18,7 @@ from .desk import IMPORT_SECONDS, Answer, Away, Desk
 from .journal import Journal
 from .reader import Command, Moves, Past, past_outages, read_later, read_rows
 from .rehearsal import Rehearsal
-from .state import Refused, State
+from .state import State
 
 WATCH_SECONDS = 1.0
 KEPT_UNDOS = 2_000
@@ -145,7 +145,7 @@ class Office:
             return []
         try:
             return views.news_view(self.state, commands, await self.supply_now(self.state.now()))[:KEPT_NEWS]
-        except (Away, Refused):
+        except Away:
             return []
 
     async def learn(self, number: int, command: Command, moves: Moves) -> None:

@@ -9,8 +9,8 @@ import secrets
 import shutil
 import tempfile
 from collections import deque
-from collections.abc import AsyncIterator, Sequence
-from contextlib import asynccontextmanager
+from collections.abc import AsyncIterator, Awaitable, Callable, Iterator, Sequence
+from contextlib import asynccontextmanager, contextmanager
 from dataclasses import dataclass, replace
 from pathlib import Path
 from typing import Any
@@ -36,6 +36,15 @@ class Tried:
 
     plan: Plan
     before: Supply | None
+
+
+async def within(seconds: float, waited: Awaitable[Any], why: Callable[[], str]) -> None:
+    """Waits for something; where it takes too long it is away, and why."""
+    try:
+        async with asyncio.timeout(seconds):
+            await waited
+    except TimeoutError:
+        raise Away(why()) from None
 
 
 def copied(book: Path) -> tuple[tempfile.TemporaryDirectory[str], int, int]:
@@ -95,32 +104,32 @@ class Rehearsal(OwnDesk):
 
     @asynccontextmanager
     async def turn(self) -> AsyncIterator[None]:
-        """The copy for one question, as of the last command that is known. What breaks off in between leaves no copy."""
+        """The copy for one question, as of the last command that is known."""
+        await within(READY_SECONDS, self.order.acquire(), lambda: "the copy of the desk is busy")
         try:
-            async with asyncio.timeout(READY_SECONDS):
-                await self.order.acquire()
-        except TimeoutError:
-            raise Away("the copy of the desk is busy") from None
+            await within(READY_SECONDS, self.ready.wait(), self.why)
+            with self.whole_or_gone():
+                await self.follow()
+                yield
+        finally:
+            self.order.release()
+
+    def why(self) -> str:
+        """Why there is no copy."""
+        return self.desk.why_away or "the copy of the desk is being made"
+
+    @contextmanager
+    def whole_or_gone(self) -> Iterator[None]:
+        """Some work with the copy. Where it breaks off nothing is known of the copy any more: there will be another one."""
         try:
-            await self.wait_for_copy()
-            await self.follow()
             yield
         except (Refused, NotPlanned):
             raise
         except BaseException:
             self.throw_away()
             raise
-        finally:
-            if self.made - len(self.entries) > MOST_MADE:
-                self.throw_away()
-            self.order.release()
-
-    async def wait_for_copy(self) -> None:
-        try:
-            async with asyncio.timeout(READY_SECONDS):
-                await self.ready.wait()
-        except TimeoutError:
-            raise Refused(f"the copy of the desk isn't ready: {self.desk.why_away or 'it is being made'}") from None
+        if self.made - len(self.entries) > MOST_MADE:
+            self.throw_away()
 
     async def follow(self) -> None:
         while self.later:
@@ -180,13 +189,14 @@ class Rehearsal(OwnDesk):
         async with self.turn():
             return await self.desk.ask("GET", route)
 
-    async def indices_after(self, kind: str, fields: Sequence[str]) -> Any:
-        """The indices after a day is marked, or unmarked."""
+    async def indices_around(self, kind: str, fields: Sequence[str]) -> tuple[Any, Any]:
+        """The indices before a day is marked, or unmarked, and after it."""
         async with self.turn():
+            before = (await self.desk.ask("GET", "/indices")).json()
             await self.act(kind, fields)
-            found = (await self.desk.ask("GET", "/indices")).json()
+            after = (await self.desk.ask("GET", "/indices")).json()
             await self.act(OPPOSITES[kind], fields)
-            return found
+            return before, after
 
     async def walk(self, steps: Sequence[Step], orders: Sequence[Order]) -> list[list[Tried]]:
         """What each of some steps would do on what those before it leave, for each order of them; then all is taken back."""

@@ -16,7 +16,7 @@ from typing import Any
 from .answers import Outage
 from .desk import Away
 from .office import Office
-from .state import Refused, State
+from .state import State
 
 Json = dict[str, Any]
 SUSTAINED_SECONDS = 300  # an interruption that lasts longer is sustained
@@ -83,7 +83,7 @@ def count_up_to(state: State, indices: Json, end: int, behind: Iterable[Outage],
 def whole_number(value: Fraction) -> int:
     """A count that an index was made of."""
     if value.denominator != 1:
-        raise ValueError(f"{value} isn't whole: the index and the rows aren't of one book")
+        raise Away("the book has changed meanwhile")
     return value.numerator
 
 
@@ -148,14 +148,17 @@ def amounts_up_to(state: State, totals: Json, end: int, behind: Sequence[Outage]
 
 
 async def to_now_view(office: Office) -> Json:
-    """What the year says up to now; nothing where its period is over or hasn't begun."""
+    """What the year says up to now; nothing where its period is over or hasn't begun, or why it can't be had."""
     state = office.state
     if not is_live(state):
         return {"open": 0, "to_now": None}
     now = state.now()
     outages = (await office.supply(now)).outages
     shown: Json = {"open": len({row.entry for row in outages if row.until == state.period.end})}
-    shown["to_now"] = {"at": {"second": now, "text": state.period.zone.text_of(now)}, **await figures(office, now)}
+    try:
+        shown["to_now"] = {"at": {"second": now, "text": state.period.zone.text_of(now)}, **await figures(office, now)}
+    except Away as away:
+        shown |= {"to_now": None, "why": str(away)}
     return shown
 
 
@@ -164,10 +167,9 @@ async def marks_view(office: Office, kind: str, fields: Sequence[str]) -> Json |
     now where the period goes on, and of the whole period as the book stands. None where there is no copy."""
     state = office.state
     try:
-        then = await office.rehearsal.indices_after(kind, fields)
-    except (Away, Refused):
+        found = [indices["unmarked"] for indices in await office.rehearsal.indices_around(kind, fields)]
+    except Away:
         return None
-    found = (await office.view("/indices"))["unmarked"], then["unmarked"]
     day = {state.day_number(fields[0])}
     marks = set(state.marks), set(state.marks) | day if kind == "mark" else set(state.marks) - day
 

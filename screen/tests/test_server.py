@@ -391,6 +391,8 @@ class Faults(support.Case):
         support.until(lambda: screen.call("/health")[1]["desk"] == "away", what="the desk away")
         self.assertEqual(screen.call("/health")[0], 503)
         self.assertEqual(screen.call("/api/now")[0], 200)
+        forecast = "/api/forecast?kind=switch&f1=LBS-22&f2=close&f3=1743976320&f4=5&f5=ANNA"
+        self.assertEqual(screen.call(forecast)[1]["total"], -1_440)  # the copy says so
         again = self.desk(desk.book, desk.port)
         support.until(lambda: screen.call("/health")[1]["desk"] == "here", what="the desk here")
 
