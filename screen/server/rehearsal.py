@@ -94,6 +94,8 @@ class Rehearsal(OwnDesk):
 
     def note(self, command: Command, moves: Moves) -> None:
         """Has the copy follow a command that the desk accepted, before it is asked again."""
+        if len(self.later) == MOST_LATER and self.ready.is_set():
+            self.throw_away()
         self.later.append((command, moves))
 
     def throw_away(self) -> None:
@@ -135,10 +137,8 @@ class Rehearsal(OwnDesk):
         while self.later:
             command, moves = self.later[0]
             if command.number > self.known:
-                if (
-                    command.number > self.known + 1
-                    or await self.act(command.kind, command.fields, command.ref) != moves
-                ):
+                is_next = command.number == self.known + 1
+                if not is_next or await self.act(command.kind, command.fields, command.ref) != moves:
                     raise Away(f"the copy of the desk could not follow command {command.number}")
                 self.known = command.number
                 if command.kind == "switch":

@@ -141,6 +141,16 @@ class Forecasts(offices.Case):
         await self.act_on_steps([["withdraw", str(last - place), "1"] for place in range(len(steps))])
         await self.check_copy()
 
+    async def test_a_copy_that_fell_behind(self) -> None:
+        """After more commands than it follows there is another copy."""
+        self.random = random.Random(7)
+        with unittest.mock.patch("server.rehearsal.MOST_LATER", 5):
+            await self.begin(support.fortnight("behind"))
+            await self.check_copy()
+            for step in [*self.steps(), *self.steps(), *self.steps()]:
+                await self.accept(*step)
+            await self.check_copy()
+
     async def test_what_a_step_is_refused_for(self) -> None:
         """The step is named, and those before it are taken back."""
         await self.begin(support.fortnight("refused"))
