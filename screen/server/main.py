@@ -123,6 +123,8 @@ async def serve(given: argparse.Namespace) -> None:
         state = await known_state(rehearsal, book) if given.no_desk else new_state(book)
         office = Office(book, state, desk, rehearsal, Journal(None if given.no_desk else log))
         if desk is not None:
+            if (await desk.ask("GET", f"/supply/{state.now()}")).status == 404:
+                raise BookError("the desk's program is older than this screen")
             office.note_start()
             tasks.append(asyncio.create_task(office.watch()))
         await listen(given, office, ended)

@@ -16,7 +16,7 @@ from .names import outage_in
 from .office import Office
 from .reader import Entry, Moves
 from .rehearsal import Order, Step, Tried
-from .state import Refused, State
+from .state import NotNow, Refused, State
 from .views import Json, entry_view, reference_of
 
 MOST_STEPS = 30
@@ -53,7 +53,7 @@ async def forecast(office: Office, steps: Sequence[Step]) -> Json:
         kind, *fields = steps[refused.reply["step"]]
         raise Refused(f"step {refused.reply['step'] + 1}: {refusal_words(state, kind, fields, refused)}") from None
     except Away as away:
-        raise Refused(f"what these steps would do isn't known now, since they can't be tried: {away}") from None
+        raise NotNow(f"what these steps would do isn't known now, since they can't be tried: {away}") from None
     rows, before = list[Json](), state
     for place, step in zip(in_time, tried):
         rows.append({**step_view(before, steps[place], step), "place": place})

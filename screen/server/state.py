@@ -21,6 +21,10 @@ class Refused(Exception):
     """What the screen won't look at, or the desk as it is now won't take: why."""
 
 
+class NotNow(Refused):
+    """What can't be told now, and may be a moment later."""
+
+
 def end_of(text: str) -> int | None:
     return None if text == "-" else int(text)
 

@@ -27,7 +27,7 @@ from .guard import BODY_BYTES
 from .names import NAME, folded, name_in
 from .office import Office
 from .reader import BookError
-from .state import Refused
+from .state import NotNow, Refused
 from .to_now import to_now_view
 
 STATIC = Path(__file__).resolve().parent.parent / "static"
@@ -131,7 +131,7 @@ async def check(request: web.Request, handler: Handler) -> web.StreamResponse:
         reply.headers.update(headers or {})
         return reply
     except Refused as refused:
-        return complaint(422, "refused here", str(refused))
+        return complaint(503 if isinstance(refused, NotNow) else 422, "refused here", str(refused))
     except Away as away:
         return answer(503, {"error": "away", "words": "The desk gives no answer.", "why": str(away)})
     except BookError as error:

@@ -167,7 +167,7 @@ class Forecasts(offices.Case):
         self.rehearsal.throw_away()
         step = ["switch", "CB-1", "open", str(FIRST + 60), "5", "CREW-3"]
         with unittest.mock.patch("server.rehearsal.READY_SECONDS", 1.0):
-            with self.assertRaisesRegex(state.Refused, "since they can't be tried: .*none.db"):
+            with self.assertRaisesRegex(state.NotNow, "since they can't be tried: .*none.db"):
                 await outage.forecast(self.office, [step, step])
         self.assertIsNotNone(await self.forecast("switch", step[1:]))
 
