@@ -49,13 +49,12 @@ async def within(seconds: float, waited: Awaitable[Any], why: Callable[[], str])
 
 def copied(book: Path) -> tuple[tempfile.TemporaryDirectory[str], int, int]:
     """A folder with a copy of a book, in memory where there is some, and how many commands and entries it has."""
-    memory = MEMORY if os.access(MEMORY, os.W_OK) else None
-    folder = tempfile.TemporaryDirectory(prefix="screen-rehearsal-", dir=memory)
     with copy_of(book) as copy:
         commands, entries = counts_of(copy)
-        for file in copy.parent.glob("book.db*"):
-            if not file.name.endswith("-shm"):
-                shutil.copyfile(file, Path(folder.name) / file.name)
+        copy.with_name(f"{copy.name}-shm").unlink(missing_ok=True)  # of the counting
+        memory = MEMORY if os.access(MEMORY, os.W_OK) else None
+        folder = tempfile.TemporaryDirectory(prefix="screen-rehearsal-", dir=memory)
+        shutil.copytree(copy.parent, folder.name, dirs_exist_ok=True)
     return folder, commands, entries
 
 
