@@ -15,7 +15,7 @@ from .forecasts import ahead_of, changes_of, forecast_view, late_hints, notes_of
 from .names import outage_in
 from .office import Office
 from .reader import Entry, Moves
-from .rehearsal import Order, Step, Tried
+from .rehearsal import Step, Tried
 from .state import NotNow, Refused, State
 from .views import Json, entry_view, reference_of
 

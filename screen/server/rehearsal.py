@@ -200,9 +200,9 @@ class Rehearsal(OwnDesk):
     async def walk(self, steps: Sequence[Step], orders: Sequence[Order]) -> list[list[Tried]]:
         """What each of some steps would do on what those before it leave, for each order of them; then all is taken back."""
         async with self.turn():
-            return [await self.walk_once(steps, order) for order in orders]
+            return [await self.walk_once(steps, order, order is orders[0]) for order in orders]
 
-    async def walk_once(self, steps: Sequence[Step], order: Order) -> list[Tried]:
+    async def walk_once(self, steps: Sequence[Step], order: Order, looks: bool) -> list[Tried]:
         tried: list[Tried] = []
         made: list[str] = []
         try:
@@ -212,7 +212,8 @@ class Rehearsal(OwnDesk):
                     plan = await self.own_plan(kind, fields)
                 except NotPlanned as refused:
                     raise NotPlanned({**refused.reply, "step": place}) from None
-                tried.append(Tried(plan, await self.own_supply(int(fields[2])) if kind == "switch" else None))
+                looked = await self.own_supply(int(fields[2])) if looks and kind == "switch" else None
+                tried.append(Tried(plan, looked))
                 if place != order[-1]:
                     await self.act(kind, fields)
                     made.append(kind)
