@@ -15,9 +15,10 @@ sys.path.insert(1, str(TOOLS))  # in the clone, or where both are installed
 
 from outage_tools.cli import Parser  # noqa: E402
 from outage_tools.copies import copy_of  # noqa: E402
+from outage_tools.counts import Counts, indices_of, quotient_text  # noqa: E402
 from outage_tools.errors import BookError  # noqa: E402
 from outage_tools.rows import Book, Device, Entry, Period, Section, read_book  # noqa: E402
-from outage_tools.sweep import Run, sweep  # noqa: E402
+from outage_tools.sweep import LONGEST_MOMENTARY, Run, sweep  # noqa: E402
 from outage_tools.zone import Zone  # noqa: E402
 
 __all__ = [
@@ -34,7 +35,18 @@ __all__ = [
     "copy_of",
     "counts_of",
 ]
-__all__ += ["command_of", "past_outages", "read_later", "read_rows", "report_words", "tool_words"]
+__all__ += [
+    "LONGEST_MOMENTARY",
+    "Counts",
+    "indices_of",
+    "quotient_text",
+    "command_of",
+    "past_outages",
+    "read_later",
+    "read_rows",
+    "report_words",
+    "tool_words",
+]
 
 DIMENSIONS = {1: "cause", 2: "feeder", 3: "day"}
 Moves = list[tuple[str, int, int]]

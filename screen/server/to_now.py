@@ -8,33 +8,19 @@ from __future__ import annotations
 
 import time
 from collections import defaultdict
-from collections.abc import Iterable, Sequence
-from dataclasses import dataclass
+from collections.abc import Container, Iterable, Sequence
 from fractions import Fraction
 from typing import Any
 
 from .answers import Outage
 from .desk import Away
 from .office import Office
+from .reader import LONGEST_MOMENTARY, Counts, indices_of, quotient_text
 from .state import State
 
 Json = dict[str, Any]
-SUSTAINED_SECONDS = 300  # an interruption that lasts longer is sustained
-SETS = ("all", "unmarked")
+NAMES = ("SAIFI", "SAIDI", "CAIDI", "ASAI")
 MOST_LATER = 200  # seconds to come at which something is switched
-
-
-@dataclass
-class Count:
-    """Sustained interruptions, and their seconds over all customers."""
-
-    interruptions: int = 0
-    seconds: int = 0
-
-    def add(self, customers: int, seconds: int, sign: int = 1) -> None:
-        if seconds > SUSTAINED_SECONDS:
-            self.interruptions += sign * customers
-            self.seconds += sign * customers * seconds
 
 
 def is_live(state: State) -> bool:
@@ -64,20 +50,28 @@ def served(state: State, end: int) -> int:
     )
 
 
-def count_up_to(state: State, indices: Json, end: int, behind: Iterable[Outage], marked: Iterable[int] | None) -> Count:
-    """The sustained interruptions up to a second: those of the desk's indices, with the outages behind it cut there; of the
-    unmarked ones those are left out that begin on a marked day."""
-    whole = served(state, state.period.end)
-    found = Count()
+def indices_up_to(
+    state: State, indices: Json, end: int, behind: Iterable[Outage], marked: Container[int]
+) -> dict[str, list[str]]:
+    """The indices up to a second, as the annual table writes them: from the desk's, with the outages behind that second cut
+    there; those that begin on a marked day are left out."""
+    whole, counts = served(state, state.period.end), Counts()
     if whole:
-        found.interruptions = whole_number(Fraction(indices["saifi"]) * whole / state.period.length)
-        found.seconds = whole_number(Fraction(indices["saidi"]) * 60 * whole / state.period.length)
+        counts.sustained = whole_number(Fraction(indices["saifi"]) * whole / state.period.length)
+        counts.sustained_seconds = whole_number(Fraction(indices["saidi"]) * 60 * whole / state.period.length)
     for row in behind:
         for since, until, customers in state.within(state.node_numbers[row.section], row.since, row.until):
-            if marked is None or state.period.day_of(since) not in marked:
-                found.add(customers, until - since, -1)
-                found.add(customers, min(until, end) - since)
-    return found
+            if state.period.day_of(since) not in marked:
+                count(counts, -customers, until - since)
+                count(counts, customers, min(until, end) - since)
+    found = indices_of(counts, served(state, end), end - state.period.first)
+    return {name: quotient_text(found[name]).split() for name in NAMES}
+
+
+def count(counts: Counts, customers: int, seconds: int) -> None:
+    if seconds > LONGEST_MOMENTARY:
+        counts.sustained += customers
+        counts.sustained_seconds += customers * seconds
 
 
 def whole_number(value: Fraction) -> int:
@@ -87,36 +81,14 @@ def whole_number(value: Fraction) -> int:
     return value.numerator
 
 
-def index(numerator: int, denominator: int) -> list[str]:
-    """A quotient as the annual table has it: in lowest terms, then rounded half up to three decimals."""
-    if denominator == 0:
-        return ["undefined"]
-    value = Fraction(numerator, denominator)
-    thousandths = (2_000 * value.numerator + value.denominator) // (2 * value.denominator)
-    return [f"{value.numerator}/{value.denominator}", f"{thousandths // 1_000}.{thousandths % 1_000:03}"]
-
-
-def indices_of(count: Count, served_seconds: int, length: int) -> dict[str, list[str]]:
-    return {
-        "SAIFI": index(count.interruptions * length, served_seconds),
-        "SAIDI": index(count.seconds * length, 60 * served_seconds),
-        "CAIDI": index(count.seconds, 60 * count.interruptions),
-        "ASAI": index(served_seconds - count.seconds, served_seconds),
-    }
-
-
 async def figures(office: Office, end: int) -> Json:
     """The figures of the book up to a second."""
     state, behind = office.state, await outages_behind(office, end)
     totals, indices = await office.view("/totals"), await office.view("/indices")
-    before, length = served(state, end), end - state.period.first
-    of_sets = {
-        name: indices_of(count_up_to(state, indices[name], end, behind, marked), before, length)
-        for name, marked in (("all", None), ("unmarked", state.marks))
-    }
+    marks: dict[str, Container[int]] = {"all": (), "unmarked": state.marks}
+    of_sets = {name: indices_up_to(state, indices[name], end, behind, marked) for name, marked in marks.items()}
     return {
-        "indices": {name: {each: of_sets[each][name] for each in SETS} for name in of_sets["all"]},
-        "totals": {"P": length, "S": before},
+        "indices": {name: {each: of_sets[each][name] for each in marks} for name in NAMES},
         **amounts_up_to(state, totals, end, behind),
     }
 
@@ -174,9 +146,9 @@ async def marks_view(office: Office, kind: str, fields: Sequence[str]) -> Json |
     marks = set(state.marks), set(state.marks) | day if kind == "mark" else set(state.marks) - day
 
     async def saidi(end: int) -> list[str]:
-        behind, before = await outages_behind(office, end), served(state, end)
-        counts = (count_up_to(state, indices, end, behind, marked) for indices, marked in zip(found, marks))
-        return [indices_of(count, before, end - state.period.first)["SAIDI"][-1] for count in counts]
+        behind = await outages_behind(office, end)
+        shown = (indices_up_to(state, indices, end, behind, marked) for indices, marked in zip(found, marks))
+        return [each["SAIDI"][-1] for each in shown]
 
     ends = {"to_now": state.now()} if is_live(state) else {}
     return {name: await saidi(end) for name, end in {**ends, "whole": state.period.end}.items()}

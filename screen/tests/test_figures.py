@@ -86,17 +86,7 @@ class Figures(offices.Case):
         self.assertIsNone((await self.forecast("LBS-1", "open", 20))["reason"])
 
 
-class AtTheEnd(offices.Case):
-    async def test_at_the_periods_end_they_are_those_of_the_annual_table(self) -> None:
-        await self.begin(support.fortnight("to-now"))
-        found = await to_now.figures(self.office, self.state.period.end)
-        table = year.table_view((support.FORTNIGHT_FILES / "fortnight.table.txt").read_text())
-        for name in ("SAIFI", "SAIDI", "CAIDI", "ASAI"):
-            self.assertEqual(found["indices"][name], table["indices"][name])
-        self.assertEqual(str(found["W"]), table["totals"]["W"])
-        days = [[row[0], int(row[1]), row[-1] == "marked"] for row in table["days"] if row[1] != "0"]
-        self.assertEqual(found["days"], days)
-
+class Shorter(offices.Case):
     async def test_they_are_those_of_a_book_that_ends_there(self) -> None:
         """Random switchings in the sample's network: a book of the first days alone says what the longer one says up to them."""
         chance, rows = random.Random(8), (support.FORTNIGHT_FILES / "fortnight.csv").read_text().splitlines()
@@ -108,7 +98,7 @@ class AtTheEnd(offices.Case):
             for number, second in enumerate(seconds)
         }
         await self.begin(book_of("longer", [*said, *switched], 14))
-        for days in (3, 7, 13):
+        for days in (3, 7, 14):
             end = self.state.period.bounds[days]
             kept = [row for row in said if days > 6 or not row.startswith("mark")]
             kept += [row for row, second in switched.items() if second < end]
