@@ -396,11 +396,27 @@ class Faults(support.Case):
         again = self.desk(desk.book, desk.port)
         support.until(lambda: screen.call("/health")[1]["desk"] == "here", what="the desk here")
 
-    def test_the_screen_takes_its_desk_with_it(self) -> None:
+    def test_pages_while_the_desk_hangs(self) -> None:
+        """The copy answers in its place after a short wait, the steps of an outage among others."""
         screen = self.screen()
-        desk = screen.desk_process()
+        steps = [["switch", "LBS-22", position, "1743976320", "5", "ANNA"] for position in ("close", "open")]
+        forecast = f"/api/forecast?{urllib.parse.urlencode({'steps': json.dumps(steps)})}"
+        self.assertEqual(screen.call(forecast)[0], 200)  # there is a copy
+        before, desk = screen.call("/api/now")[1], screen.desk_process()
+        os.kill(desk, signal.SIGSTOP)
+        self.addCleanup(os.kill, desk, signal.SIGCONT)
+        begun = time.monotonic()
+        self.assertEqual(screen.call("/api/now")[1], before)
+        for route in (forecast, "/api/position?device=LBS-22", "/api/changes", "/api/sheet?feeder=1"):
+            self.assertEqual(screen.call(route)[0], 200, route)
+        self.assertLess(time.monotonic() - begun, support.limit(6.0))
+
+    def test_the_screen_takes_its_desk_and_the_copy_with_it(self) -> None:
+        screen = self.screen()
+        children = Path(f"/proc/{screen.process.pid}/task/{screen.process.pid}/children")
+        desks = support.until(lambda: len(found := children.read_text().split()) == 2 and found, what="the copy")
         screen.process.kill()
-        support.until(lambda: not is_running(desk), what="its end")
+        support.until(lambda: not any(is_running(int(desk)) for desk in desks), what="their end")
 
 
 class Cutter:
