@@ -11,7 +11,9 @@ from .desk import Answer, Away
 from .reader import Moves
 from .state import Refused
 
-Interval = tuple[int, int]  # seconds without supply, from one up to another
+Interval = tuple[
+    int, int, int
+]  # seconds without supply, from one up to another, and the entry that cut off (0: none did)
 
 
 @dataclass(frozen=True)
@@ -98,4 +100,4 @@ def plan_in(answer: Answer) -> Plan:
 
 
 def spans(intervals: Sequence[Sequence[int]]) -> list[Interval]:
-    return [(since, until) for since, until, *_ in intervals]
+    return [(since, until, entry or 0) for since, until, entry, _ in intervals]

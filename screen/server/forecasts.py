@@ -98,15 +98,15 @@ def sections_of(state: State, changes: Changes) -> list[Json]:
     return sorted(rows, key=lambda row: (row["feeder"], row["section"]))
 
 
-def length(parts: Iterable[Interval]) -> int:
+def length(parts: Iterable[tuple[int, int]]) -> int:
     return sum(until - since for since, until in parts)
 
 
-def uncovered(outages: Sequence[Interval], others: Sequence[Interval]) -> list[Interval]:
+def uncovered(outages: Sequence[Interval], others: Sequence[Interval]) -> list[tuple[int, int]]:
     """The seconds of some outages that lie in none of others; both rising."""
     parts = []
-    for since, until in outages:
-        for begin, end in others:
+    for since, until, _ in outages:
+        for begin, end, _ in others:
             if end <= since or begin >= until:
                 continue
             if since < begin:

@@ -6,6 +6,7 @@ import asyncio
 import re
 from collections import OrderedDict, deque
 from collections.abc import Sequence
+from contextlib import suppress
 from pathlib import Path
 from typing import Any
 
@@ -64,6 +65,8 @@ class Office:
         self.kept: dict[str, Kept] = {}  # what is made of the whole book, by name
         self.undos: OrderedDict[int, tuple[str, ...] | None] = OrderedDict()  # by command: what takes it back
         self.news: deque[dict[str, Any]] = deque(maxlen=KEPT_NEWS)  # the outages that began last, latest first
+        self.past_order, self.past_of = asyncio.Lock(), -1
+        self.past_known: Past = {}  # as of the command `past_of`
         self.is_importing = False
         self.differs: str | None = None
         self.told_away: str | None = None
@@ -265,15 +268,21 @@ class Office:
         return answer.body.decode() if answer.status == 200 else None
 
     async def past(self) -> Past:
-        """All outages of the book's rows."""
-        state = self.state
-
-        async def make() -> Past:
-            rows = list(state.nodes), list(state.devices), list(state.entries)
-            return await self.tables.run(past_outages, state.period, *rows)
-
-        found: Past = await self.kept.setdefault("past", Kept(lambda: self.state.number, make)).get()
-        return found
+        """All outages: those of the rows once, by the tools, and from then on as the copy of the desk says that commands change
+        them."""
+        async with self.past_order:
+            state, followed = self.state, None
+            if self.past_of == state.number:
+                return self.past_known
+            with suppress(Away):
+                followed = await self.rehearsal.changes_after(self.past_of) if self.past_known else None
+            if followed is not None:
+                self.past_of, changes = followed
+                self.past_known.update((change.section, change.after) for change in changes)
+            else:
+                self.past_of, rows = state.number, (list(state.nodes), list(state.devices), list(state.entries))
+                self.past_known = await self.tables.run(past_outages, state.period, *rows)
+            return self.past_known
 
 
 def away_words() -> str:

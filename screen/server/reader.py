@@ -18,40 +18,19 @@ from outage_tools.copies import copy_of  # noqa: E402
 from outage_tools.counts import Counts, indices_of, quotient_text  # noqa: E402
 from outage_tools.errors import BookError  # noqa: E402
 from outage_tools.rows import Book, Device, Entry, Period, Section, read_book  # noqa: E402
-from outage_tools.sweep import LONGEST_MOMENTARY, Run, sweep  # noqa: E402
+from outage_tools.sweep import LONGEST_MOMENTARY, sweep  # noqa: E402
 from outage_tools.zone import Zone  # noqa: E402
 
-__all__ = [
-    "BookError",
-    "Command",
-    "Device",
-    "Entry",
-    "Period",
-    "Past",
-    "Rows",
-    "Run",
-    "Parser",
-    "Zone",
-    "copy_of",
-    "counts_of",
-]
-__all__ += [
-    "LONGEST_MOMENTARY",
-    "Counts",
-    "indices_of",
-    "quotient_text",
-    "command_of",
-    "past_outages",
-    "read_later",
-    "read_rows",
-    "report_words",
-    "tool_words",
-]
+__all__ = ["BookError", "Command", "Counts", "Device", "Entry", "LONGEST_MOMENTARY", "Parser", "Past", "Period", "Rows"]
+__all__ += ["Zone", "command_of", "copy_of", "counts_of", "indices_of", "past_outages", "quotient_text", "read_later"]
+__all__ += ["read_rows", "report_words", "tool_words"]
 
 DIMENSIONS = {1: "cause", 2: "feeder", 3: "day"}
 Moves = list[tuple[str, int, int]]
 Nodes = list[tuple[str, int, int]]  # name, kind, home feeder
-Past = dict[int, list[Run]]  # all outages of each section, by its number
+Past = dict[
+    str, list[tuple[int, int, int]]
+]  # all outages of each section: since, until, the entry that cut it off, or 0
 Service = tuple[int, int, int | None]  # section, since, until
 
 
@@ -83,9 +62,9 @@ def past_outages(period: Period, nodes: Nodes, devices: Sequence[Device], entrie
     """All outages, by the tools' sweep over a book's rows."""
     sections = {node: Section(node, name, feeder) for node, (name, kind, feeder) in enumerate(nodes) if kind == 2}
     names = {node: name for node, (name, _, _) in enumerate(nodes)}
-    found: Past = {section: [] for section in sections}
+    found: Past = {section.name: [] for section in sections.values()}
     for run in sweep(Book(2, period, {}, names, sections, tuple(devices), (), tuple(entries), {}, {})):
-        found[run.section].append(run)
+        found[names[run.section]].append((run.since, run.until, run.cutter.number if run.cutter else 0))
     return found
 
 

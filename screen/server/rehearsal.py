@@ -12,10 +12,11 @@ from collections import deque
 from collections.abc import AsyncIterator, Awaitable, Callable, Iterator, Sequence
 from contextlib import asynccontextmanager, contextmanager
 from dataclasses import dataclass, replace
+from itertools import chain
 from pathlib import Path
 from typing import Any
 
-from .answers import NotPlanned, Plan, Supply, command_body, moves_in, plan_in, supply_in
+from .answers import NotPlanned, Plan, SectionChange, Supply, command_body, moves_in, plan_in, supply_in
 from .apart import Apart
 from .desk import Answer, Away, Desk, OwnDesk
 from .reader import BookError, Command, Moves, copy_of, counts_of
@@ -68,18 +69,24 @@ class Rehearsal(OwnDesk):
         self.known = 0  # the last of the book's commands that the copy has
         self.later: deque[tuple[Command, Moves]] = deque(maxlen=MOST_LATER)
         self.entries: list[int] = []  # the copy's number of each of the book's entries
+        self.numbers: dict[int, int] = {}  # the book's number of each of these
+        self.changes: deque[tuple[int, list[SectionChange]]] = deque(
+            maxlen=MOST_LATER
+        )  # by the commands that it followed
         self.made = 0  # entries that the copy has
 
     # The copy, and its following.
 
     async def run_once(self) -> str:
         self.later.clear()
+        self.changes.clear()
         self.desk.why_away = None
         try:
             self.folder, self.known, self.made = await self.copies.run(copied, self.original)
         except (BookError, OSError) as error:
             return str(error)
         self.entries = list(range(1, self.made + 1))
+        self.numbers = {number: number for number in self.entries}
         self.book = Path(self.folder.name) / "book.db"
         try:
             return await super().run_once()
@@ -136,13 +143,31 @@ class Rehearsal(OwnDesk):
         while self.later:
             command, moves = self.later[0]
             if command.number > self.known:
-                is_next = command.number == self.known + 1
-                if not is_next or await self.act(command.kind, command.fields, command.ref) != moves:
-                    raise Away(f"the copy of the desk could not follow command {command.number}")
-                self.known = command.number
-                if command.kind == "switch":
-                    self.entries.append(self.made)
+                await self.take(command, moves)
             self.later.popleft()
+
+    async def take(self, command: Command, moves: Moves) -> None:
+        """Acts the next command, which has to move what it moved in the book; which outages it changed is kept."""
+        try:
+            planned = await self.own_plan(command.kind, command.fields)
+            is_same = await self.act(command.kind, command.fields, command.ref) == moves
+        except NotPlanned:
+            is_same = False
+        if command.number != self.known + 1 or not is_same:
+            raise Away(f"the copy of the desk could not follow command {command.number}")
+        self.known = command.number
+        if command.kind == "switch":
+            self.entries.append(self.made)
+            self.numbers[self.made] = len(self.entries)
+        self.changes.append((self.known, [self.told(change) for change in planned.changes]))
+
+    def told(self, change: SectionChange) -> SectionChange:
+        """A change with the book's numbers of entries."""
+        before, after = (
+            [(since, until, self.numbers.get(entry, 0)) for since, until, entry in intervals]
+            for intervals in (change.before, change.after)
+        )
+        return SectionChange(change.section, before, after)
 
     async def act(self, kind: str, fields: Sequence[str], ref: str = "") -> Moves:
         """Sends a command to the copy for real."""
@@ -157,13 +182,8 @@ class Rehearsal(OwnDesk):
 
     def own(self, kind: str, fields: Sequence[str]) -> Sequence[str]:
         """The fields of a command with the copy's own number of an entry; those of an entry that isn't there stay."""
-        known = kind in ("correct", "withdraw") and fields[0].isdecimal() and int(fields[0]) in self.numbers
-        return [str(self.entries[int(fields[0]) - 1]), *fields[1:]] if known else fields
-
-    @property
-    def numbers(self) -> range:
-        """Of the book's entries."""
-        return range(1, len(self.entries) + 1)
+        number = int(fields[0]) if kind in ("correct", "withdraw") and fields[0].isdecimal() else 0
+        return [str(self.entries[number - 1]), *fields[1:]] if 1 <= number <= len(self.entries) else fields
 
     # What is asked of it.
 
@@ -173,8 +193,7 @@ class Rehearsal(OwnDesk):
 
     async def own_supply(self, second: int) -> Supply:
         found = supply_in(await self.desk.ask("GET", f"/supply/{second}"))
-        numbers = {own: number for number, own in zip(self.numbers, self.entries)}
-        return replace(found, outages=[replace(row, entry=numbers.get(row.entry, 0)) for row in found.outages])
+        return replace(found, outages=[replace(row, entry=self.numbers.get(row.entry, 0)) for row in found.outages])
 
     async def plan(self, kind: str, fields: Sequence[str]) -> Plan:
         async with self.turn():
@@ -182,6 +201,13 @@ class Rehearsal(OwnDesk):
 
     async def own_plan(self, kind: str, fields: Sequence[str]) -> Plan:
         return plan_in(await self.desk.ask("POST", "/plan", command_body(kind, self.own(kind, fields))))
+
+    async def changes_after(self, number: int) -> tuple[int, list[SectionChange]] | None:
+        """The last command that the copy has, and how those after a number changed outages, in their order; None where it hasn't
+        followed all of them."""
+        async with self.turn():
+            found = [changes for command, changes in self.changes if command > number]
+            return (self.known, list(chain.from_iterable(found))) if len(found) == self.known - number else None
 
     async def ask(self, route: str) -> Answer:
         """A view of the whole book."""

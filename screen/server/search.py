@@ -112,7 +112,7 @@ def of_sections(state: State, nodes: set[int], past: Past, words: str) -> Test:
     if not nodes:
         raise Refused(f"no section {words}")
     at_them = {device.number for device in state.devices if not nodes.isdisjoint((device.a, device.b))}
-    cutters = {run.cutter.number for node in nodes for run in past.get(node, []) if run.cutter}
+    cutters = {entry for node in nodes for _, _, entry in past.get(state.nodes[node][0], ())}
     return lambda entry: entry.device in at_them or entry.number in cutters
 
 

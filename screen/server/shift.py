@@ -15,7 +15,7 @@ from .journal import ELSEWHERE, IMPORT, Sending
 from .moments import DAYS_BACK, LAST, day_of_word, read_moment
 from .names import name_in
 from .office import Office
-from .reader import Past, Run
+from .reader import Past
 from .state import Refused, State
 from .views import Json, command_words, day_name, entry_view, moment, outage_view, text
 
@@ -222,14 +222,14 @@ def outages_of(state: State, outages: Iterable[Outage]) -> list[Json]:
 def ended_view(state: State, past: Past, since: int, until: int) -> list[Json]:
     """The outages that ended from a second up to another, and not at the period's end."""
     end = min(until, state.now() + 1, state.period.end)
-    runs = (run for rows in past.values() for run in rows if since <= run.until < end)
-    return outages_of(state, (ended(state, run) for run in runs))
+    found = ((name, row) for name, rows in past.items() for row in rows if since <= row[1] < end)
+    return outages_of(state, (ended(state, name, *row) for name, row in found))
 
 
-def ended(state: State, run: Run) -> Outage:
+def ended(state: State, section: str, since: int, until: int, entry: int) -> Outage:
     """A past outage, with the customers that it had when it began."""
-    customers, entry = state.customers_at(run.section, run.since), run.cutter.number if run.cutter else 0
-    return Outage(state.nodes[run.section][0], run.since, run.until, entry, run.cause, customers)
+    customers = state.customers_at(state.node_numbers[section], since)
+    return Outage(section, since, until, entry, state.entries[entry - 1].cause if entry else 0, customers)
 
 
 def marks_view(office: Office) -> list[Json]:

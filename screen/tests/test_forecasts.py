@@ -106,6 +106,11 @@ class Forecasts(offices.Case):
         for second in (self.moment(), self.moment(), END - 1):
             self.assertEqual(await self.rehearsal.supply(second), await self.office.supply(second))
 
+    async def check_past(self) -> None:
+        """Outages as the copy followed them are those of the rows, swept anew."""
+        rows = self.state.nodes, self.state.devices, self.state.entries
+        self.assertEqual(await self.office.past(), reader.past_outages(self.state.period, *rows))
+
     def check_rows(self) -> None:
         anew = new_state(self.desk.book)
         for name in ("number", "causes", "nodes", "devices", "entries", "customers", "marks", "histories", "crews"):
@@ -120,7 +125,9 @@ class Forecasts(offices.Case):
                 moved += await self.act(number)
                 if number % 50 == 0:
                     await self.check_copy()
+                    await self.check_past()
             self.assertGreater(moved, COMMANDS // 5)
+            await self.check_past()
             self.check_rows()
 
     async def test_steps_of_outages(self) -> None:
@@ -129,6 +136,7 @@ class Forecasts(offices.Case):
         for _ in range(COMMANDS // 8):
             await self.act_on_steps(self.steps())
             await self.check_copy()
+            await self.check_past()
         self.check_rows()
 
     async def test_an_outage_is_taken_back(self) -> None:
@@ -140,6 +148,7 @@ class Forecasts(offices.Case):
         last = len(self.state.entries)
         await self.act_on_steps([["withdraw", str(last - place), "1"] for place in range(len(steps))])
         await self.check_copy()
+        await self.check_past()
 
     async def test_a_copy_that_fell_behind(self) -> None:
         """After more commands than it follows there is another copy."""
