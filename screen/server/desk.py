@@ -106,7 +106,7 @@ class OwnDesk:
     """A desk that the screen starts over its book, starts again where it was killed, and ends with itself."""
 
     FINAL = (2, 64)  # the file is no book, or the words are wrong: starting again doesn't help
-    BETWEEN_STARTS = 0.5
+    BETWEEN_STARTS, AFTER_FAILURE = 0.5, 5.0
 
     def __init__(self, desk: Desk, program: str, book: Path):
         self.desk, self.program, self.book = desk, program, book
@@ -123,7 +123,7 @@ class OwnDesk:
                 self.first_start.set_result(why)
             if self.is_final:
                 return
-            await asyncio.sleep(self.BETWEEN_STARTS)
+            await asyncio.sleep(self.BETWEEN_STARTS if self.process else self.AFTER_FAILURE)
 
     async def run_once(self) -> str:
         """Runs the desk until it ends: why it did."""

@@ -23,6 +23,7 @@ from .reader import BookError, Command, Moves, copy_of, counts_of
 from .state import Refused
 
 MEMORY = Path("/dev/shm")
+ROOM = 4  # times the size of the book, for what is tried
 READY_SECONDS = 12.0  # for one's turn, and for a copy that is being made
 MOST_LATER = 1_000  # commands that a copy follows; after more of them there is a new one
 MOST_MADE = 20_000  # entries that were tried and taken back in a copy: a book takes 50,000
@@ -53,8 +54,8 @@ def copied(book: Path) -> tuple[tempfile.TemporaryDirectory[str], int, int]:
     with copy_of(book) as copy:
         commands, entries = counts_of(copy)
         copy.with_name(f"{copy.name}-shm").unlink(missing_ok=True)  # of the counting
-        memory = MEMORY if os.access(MEMORY, os.W_OK) else None
-        folder = tempfile.TemporaryDirectory(prefix="screen-rehearsal-", dir=memory)
+        has_room = os.access(MEMORY, os.W_OK) and shutil.disk_usage(MEMORY).free > ROOM * copy.stat().st_size
+        folder = tempfile.TemporaryDirectory(prefix="screen-rehearsal-", dir=MEMORY if has_room else None)
         shutil.copytree(copy.parent, folder.name, dirs_exist_ok=True)
     return folder, commands, entries
 
@@ -80,7 +81,7 @@ class Rehearsal(OwnDesk):
     async def run_once(self) -> str:
         self.later.clear()
         self.changes.clear()
-        self.desk.why_away = None
+        self.desk.why_away = self.process = None
         try:
             self.folder, self.known, self.made = await self.copies.run(copied, self.original)
         except (BookError, OSError) as error:
