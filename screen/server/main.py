@@ -17,7 +17,7 @@ from .guard import Guard, Limits
 from .journal import Journal
 from .office import Office, new_state
 from .reader import BookError, Parser, read_later
-from .rehearsal import Rehearsal
+from .deskcopy import DeskCopy
 from .state import State
 from .web import Settings, application
 
@@ -97,15 +97,15 @@ async def start_desk(given: argparse.Namespace, tasks: list[asyncio.Task[None]])
     return desk, own
 
 
-async def known_state(rehearsal: Rehearsal, book: Path) -> State:
+async def known_state(copy: DeskCopy, book: Path) -> State:
     """The rows of a book that is looked at without its desk; the copy has what they have."""
-    why = await rehearsal.first_start
+    why = await copy.first_start
     if why:
         raise BookError(why)
     state = new_state(book)
-    for command, moves in read_later(book, rehearsal.known):
+    for command, moves in read_later(book, copy.known):
         if command.number <= state.number:
-            rehearsal.note(command, moves)
+            copy.note(command, moves)
     return state
 
 
@@ -116,12 +116,12 @@ async def serve(given: argparse.Namespace) -> None:
     tasks: list[asyncio.Task[None]] = []
     desk, own = await start_desk(given, tasks)
     book = given.book.resolve()
-    rehearsal = Rehearsal(given.program, book)
-    tasks.append(asyncio.create_task(rehearsal.keep()))
+    copy = DeskCopy(given.program, book)
+    tasks.append(asyncio.create_task(copy.keep()))
     try:
         log = given.log or given.book.with_name(f"{given.book.name}-screen.jsonl")
-        state = await known_state(rehearsal, book) if given.no_desk else new_state(book)
-        office = Office(book, state, desk, rehearsal, Journal(None if given.no_desk else log))
+        state = await known_state(copy, book) if given.no_desk else new_state(book)
+        office = Office(book, state, desk, copy, Journal(None if given.no_desk else log))
         if desk is not None:
             if (await desk.ask("GET", f"/supply/{state.now()}")).status == 404:
                 raise BookError("the desk's program is older than this screen")
@@ -132,7 +132,7 @@ async def serve(given: argparse.Namespace) -> None:
         for task in tasks:
             task.cancel()
         await asyncio.gather(*tasks, return_exceptions=True)
-        for each_desk in (own, rehearsal):
+        for each_desk in (own, copy):
             if each_desk is not None:
                 await each_desk.end()
 

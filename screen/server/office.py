@@ -17,7 +17,7 @@ from .commands import FIELDS
 from .desk import IMPORT_SECONDS, Answer, Away, Desk
 from .journal import Journal
 from .reader import Command, Moves, Past, past_outages, read_later, read_rows
-from .rehearsal import Rehearsal
+from .deskcopy import DeskCopy
 from .state import State
 
 WATCH_SECONDS = 1.0
@@ -55,9 +55,9 @@ class Hub:
 
 
 class Office:
-    def __init__(self, book: Path, state: State, desk: Desk | None, rehearsal: Rehearsal, journal: Journal):
+    def __init__(self, book: Path, state: State, desk: Desk | None, copy: DeskCopy, journal: Journal):
         self.book, self.state, self.desk, self.journal = book, state, desk, journal
-        self.rehearsal = rehearsal
+        self.copy = copy
         self.state.sent = journal.sent
         self.hub = Hub()
         self.in_step = asyncio.Lock()
@@ -128,7 +128,7 @@ class Office:
         """Takes the next command."""
         self.undos[command.number] = undo.undo_of(self.state, command)
         self.state.take(command)
-        self.rehearsal.note(command, moves)
+        self.copy.note(command, moves)
         while len(self.undos) > KEPT_UNDOS:
             self.undos.popitem(last=False)
 
@@ -232,7 +232,7 @@ class Office:
         try:
             return supply_in(await self.ask_now(f"/supply/{second}"))
         except Away:
-            return await self.rehearsal.supply(second)
+            return await self.copy.supply(second)
 
     def knows(self, supply: Supply) -> bool:
         """Whether the state has all that a supply speaks of: it may have come another way a moment ago."""
@@ -245,14 +245,14 @@ class Office:
         try:
             return plan_in(await self.ask_now("/plan", command_body(kind, fields)))
         except Away:
-            return await self.rehearsal.plan(kind, fields)
+            return await self.copy.plan(kind, fields)
 
     async def view(self, route: str) -> Any:
         """One of the desk's views, as JSON."""
         try:
             return (await self.ask_now(route)).json()
         except Away:
-            return (await self.rehearsal.ask(route)).json()
+            return (await self.copy.ask(route)).json()
 
     async def ask_now(self, route: str, body: bytes | None = None) -> Answer:
         if self.desk is None:
@@ -264,7 +264,7 @@ class Office:
         if self.desk is not None:
             answer = await self.desk.ask("GET", f"/commands/{number}")
         else:
-            answer = await self.rehearsal.ask(f"/commands/{number}")
+            answer = await self.copy.ask(f"/commands/{number}")
         return answer.body.decode() if answer.status == 200 else None
 
     async def past(self) -> Past:
@@ -275,7 +275,7 @@ class Office:
             if self.past_of == state.number:
                 return self.past_known
             with suppress(Away):
-                followed = await self.rehearsal.changes_after(self.past_of) if self.past_known else None
+                followed = await self.copy.changes_after(self.past_of) if self.past_known else None
             if followed is not None:
                 self.past_of, changes = followed
                 self.past_known.update((change.section, change.after) for change in changes)

@@ -15,7 +15,7 @@ from .forecasts import ahead_of, changes_of, forecast_view, late_hints, notes_of
 from .names import outage_in
 from .office import Office
 from .reader import Entry, Moves
-from .rehearsal import Step, Tried
+from .deskcopy import Step, Tried
 from .state import NotNow, Refused, State
 from .views import Json, entry_view, reference_of
 
@@ -48,7 +48,7 @@ async def forecast(office: Office, steps: Sequence[Step]) -> Json:
     state, in_time = office.state, order_in_time(steps)
     order = order_to_send(state, steps, in_time)
     try:
-        tried, *sent = await office.rehearsal.walk(steps, [in_time] if order == in_time else [in_time, order])
+        tried, *sent = await office.copy.walk(steps, [in_time] if order == in_time else [in_time, order])
     except NotPlanned as refused:
         kind, *fields = steps[refused.reply["step"]]
         raise Refused(f"step {refused.reply['step'] + 1}: {refusal_words(state, kind, fields, refused)}") from None

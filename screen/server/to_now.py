@@ -139,7 +139,7 @@ async def marks_view(office: Office, kind: str, fields: Sequence[str]) -> Json |
     now where the period goes on, and of the whole period as the book stands. None where there is no copy."""
     state = office.state
     try:
-        found = [indices["unmarked"] for indices in await office.rehearsal.indices_around(kind, fields)]
+        found = [indices["unmarked"] for indices in await office.copy.indices_around(kind, fields)]
     except Away:
         return None
     day = {state.day_number(fields[0])}

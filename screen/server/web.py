@@ -435,7 +435,7 @@ async def table_text(request: web.Request) -> str:
     office = office_of(request)
 
     async def make() -> str:
-        answered = office.rehearsal.ask("/table") if office.desk is None else office.desk.ask("GET", "/table")
+        answered = office.copy.ask("/table") if office.desk is None else office.desk.ask("GET", "/table")
         return (await answered).body.decode()
 
     return str(await whole(request, "table", make))

@@ -13,7 +13,7 @@ from server.desk import Desk
 from server.journal import Journal
 from server.office import Office, accepted, new_state
 from server.reader import Moves
-from server.rehearsal import Rehearsal
+from server.deskcopy import DeskCopy
 
 
 class Case(unittest.IsolatedAsyncioTestCase):
@@ -23,11 +23,11 @@ class Case(unittest.IsolatedAsyncioTestCase):
         asyncio.get_running_loop().slow_callback_duration = 60.0
         self.desk = support.Desk(book)
         self.addCleanup(self.desk.kill)
-        self.rehearsal = Rehearsal(str(support.PROGRAM), book)
-        keeping = asyncio.create_task(self.rehearsal.keep())
-        self.addAsyncCleanup(self.rehearsal.end)
+        self.copy = DeskCopy(str(support.PROGRAM), book)
+        keeping = asyncio.create_task(self.copy.keep())
+        self.addAsyncCleanup(self.copy.end)
         self.addCleanup(keeping.cancel)
-        self.office = Office(book, new_state(book), Desk(self.desk.url), self.rehearsal, Journal(None))
+        self.office = Office(book, new_state(book), Desk(self.desk.url), self.copy, Journal(None))
         self.state = self.office.state
 
     async def accept(self, kind: str, *fields: str) -> Moves | None:

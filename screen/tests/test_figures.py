@@ -75,7 +75,7 @@ class Figures(offices.Case):
         found = await forecasts.forecast(self.office, "mark", [day, "ANNA"])
         self.assertEqual(found["unmarked"], {"to_now": ["4.444", "0.000"], "whole": ["4.444", "0.000"]})
         self.assertEqual(found["moved"], [])
-        self.assertEqual(await self.rehearsal.supply(self.start), await self.office.supply(self.start))
+        self.assertEqual(await self.copy.supply(self.start), await self.office.supply(self.start))
 
     async def test_what_keeps_a_closed_device_without_supply(self) -> None:
         await self.switch("LBS-1", "open", 0)

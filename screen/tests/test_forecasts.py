@@ -104,7 +104,7 @@ class Forecasts(offices.Case):
     async def check_copy(self) -> None:
         """The copy answers as the desk, also of entries that were made after others were tried in it."""
         for second in (self.moment(), self.moment(), END - 1):
-            self.assertEqual(await self.rehearsal.supply(second), await self.office.supply(second))
+            self.assertEqual(await self.copy.supply(second), await self.office.supply(second))
 
     async def check_past(self) -> None:
         """Outages as the copy followed them are those of the rows, swept anew."""
@@ -153,7 +153,7 @@ class Forecasts(offices.Case):
     async def test_a_copy_that_fell_behind(self) -> None:
         """After more commands than it follows there is another copy."""
         self.random = random.Random(7)
-        with unittest.mock.patch("server.rehearsal.MOST_LATER", 5):
+        with unittest.mock.patch("server.deskcopy.MOST_LATER", 5):
             await self.begin(support.fortnight("behind"))
             await self.check_copy()
             for step in [*self.steps(), *self.steps(), *self.steps()]:
@@ -172,10 +172,10 @@ class Forecasts(offices.Case):
     async def test_no_copy_is_told(self) -> None:
         """Without a copy nothing is guessed: the steps have no forecast, and it is said why."""
         await self.begin(support.fortnight("no-copy"))
-        self.rehearsal.original = support.folder() / "none.db"
-        self.rehearsal.throw_away()
+        self.copy.original = support.folder() / "none.db"
+        self.copy.throw_away()
         step = ["switch", "CB-1", "open", str(FIRST + 60), "5", "CREW-3"]
-        with unittest.mock.patch("server.rehearsal.READY_SECONDS", 1.0):
+        with unittest.mock.patch("server.deskcopy.READY_SECONDS", 1.0):
             with self.assertRaisesRegex(state.NotNow, "since they can't be tried: .*none.db"):
                 await outage.forecast(self.office, [step, step])
         self.assertIsNotNone(await self.forecast("switch", step[1:]))

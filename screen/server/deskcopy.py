@@ -55,12 +55,12 @@ def copied(book: Path) -> tuple[tempfile.TemporaryDirectory[str], int, int]:
         commands, entries = counts_of(copy)
         copy.with_name(f"{copy.name}-shm").unlink(missing_ok=True)  # of the counting
         has_room = os.access(MEMORY, os.W_OK) and shutil.disk_usage(MEMORY).free > ROOM * copy.stat().st_size
-        folder = tempfile.TemporaryDirectory(prefix="screen-rehearsal-", dir=MEMORY if has_room else None)
+        folder = tempfile.TemporaryDirectory(prefix="screen-copy-", dir=MEMORY if has_room else None)
         shutil.copytree(copy.parent, folder.name, dirs_exist_ok=True)
     return folder, commands, entries
 
 
-class Rehearsal(OwnDesk):
+class DeskCopy(OwnDesk):
     def __init__(self, program: str, original: Path):
         super().__init__(Desk(None), program, original)
         self.original = original
