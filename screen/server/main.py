@@ -122,6 +122,7 @@ async def serve(given: argparse.Namespace) -> None:
         log = given.log or given.book.with_name(f"{given.book.name}-screen.jsonl")
         state = await known_state(copy, book) if given.no_desk else new_state(book)
         office = Office(book, state, desk, copy, Journal(None if given.no_desk else log))
+        tasks.append(asyncio.create_task(office.look_back()))
         if desk is not None:
             if (await desk.ask("GET", f"/supply/{state.now()}")).status == 404:
                 raise BookError("the desk's program is older than this screen")

@@ -267,6 +267,10 @@ class Office:
             answer = await self.copy.ask(f"/commands/{number}")
         return answer.body.decode() if answer.status == 200 else None
 
+    async def look_back(self) -> None:
+        """Finds past outages before somebody asks for them: in a long book that takes some seconds."""
+        await self.past()
+
     async def past(self) -> Past:
         """All outages: those of the rows once, by the tools, and from then on as the copy of the desk says that commands change
         them."""

@@ -195,7 +195,11 @@ class Forecasts(offices.Case):
             self.assertEqual(shown["order"], order)
             self.assertEqual([step["place"] for step in shown["steps"]], [1, 2, 3, 0])
 
-    async def test_the_sample_fortnight_from_nothing(self) -> None:
+
+class Alone(unittest.TestCase):
+    """What needs no desk."""
+
+    def test_the_sample_fortnight_from_nothing(self) -> None:
         """The rows that its commands make one by one are those of the book."""
         book = support.fortnight("from-nothing")
         known = new_state(support.new_book("empty"))
@@ -203,8 +207,6 @@ class Forecasts(offices.Case):
             known.take(command)
         self.assertEqual(vars(known), vars(new_state(book)) | {"period": known.period, "services": known.services})
 
-
-class Lists(unittest.TestCase):
     def test_what_is_no_list_of_steps(self) -> None:
         for wrong in (
             "x",
