@@ -284,8 +284,9 @@ class Office:
                 self.past_of, changes = followed
                 self.past_known.update((change.section, change.after) for change in changes)
             else:
-                self.past_of, rows = state.number, (list(state.nodes), list(state.devices), list(state.entries))
+                number, rows = state.number, (list(state.nodes), list(state.devices), list(state.entries))
                 self.past_known = await self.tables.run(past_outages, state.period, *rows)
+                self.past_of = number
             return self.past_known
 
 
