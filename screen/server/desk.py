@@ -13,6 +13,7 @@ from typing import Any
 import aiohttp
 
 ANSWER_SECONDS = 10.0
+LOOK_SECONDS = 3.0
 IMPORT_SECONDS = 300.0
 SEND_SECONDS = 25.0  # for all tries of a command
 BETWEEN_TRIES = 0.25
@@ -40,6 +41,7 @@ class Desk:
     def __init__(self, url: str | None):
         self.url = url
         self.why_away: str | None = None if url else "no desk has been started yet"
+        self.is_busy = False
         self.order = asyncio.Lock()
 
     async def ask(self, method: str, route: str, body: bytes | None = None, seconds: float = ANSWER_SECONDS) -> Answer:
@@ -56,8 +58,20 @@ class Desk:
             if answer.status == 503:
                 self.why_away = "the desk had a fault (503)"
                 raise Away(self.why_away)
-            self.why_away = None
+            self.why_away, self.is_busy = None, False
             return answer
+
+    async def look(self, route: str, body: bytes | None = None) -> Answer:
+        """What changes nothing: it waits a short time for its turn and the answer. A desk that is away, or let others wait in
+        vain, isn't asked until it has answered something."""
+        if self.url is None or self.why_away or self.is_busy:
+            raise Away(self.why_away or "the desk is busy")
+        try:
+            async with asyncio.timeout(LOOK_SECONDS):
+                return await self.ask("POST" if body else "GET", route, body)
+        except TimeoutError:
+            self.is_busy = True
+            raise Away("the desk is busy") from None
 
     async def _once(self, method: str, url: str, body: bytes | None, seconds: float) -> Answer:
         limit = aiohttp.ClientTimeout(total=seconds)
@@ -92,25 +106,26 @@ class OwnDesk:
     """A desk that the screen starts over its book, starts again where it was killed, and ends with itself."""
 
     FINAL = (2, 64)  # the file is no book, or the words are wrong: starting again doesn't help
-    BETWEEN_STARTS = 0.5
+    BETWEEN_STARTS, AFTER_FAILURE = 0.5, 5.0
 
     def __init__(self, desk: Desk, program: str, book: Path):
         self.desk, self.program, self.book = desk, program, book
         self.process: asyncio.subprocess.Process | None = None
+        self.is_final = False
         self.first_start: asyncio.Future[str | None] = asyncio.get_running_loop().create_future()
 
     async def keep(self) -> None:
         """Starts the desk, and again each time it has ended."""
         while True:
-            why = await self._run_once()
+            why = await self.run_once()
             self.desk.url, self.desk.why_away = None, why
             if not self.first_start.done():
                 self.first_start.set_result(why)
-            if self.process is None or self.process.returncode in self.FINAL:
+            if self.is_final:
                 return
-            await asyncio.sleep(self.BETWEEN_STARTS)
+            await asyncio.sleep(self.BETWEEN_STARTS if self.process else self.AFTER_FAILURE)
 
-    async def _run_once(self) -> str:
+    async def run_once(self) -> str:
         """Runs the desk until it ends: why it did."""
         words = [self.program, "serve", "--book", str(self.book), "--port", "0"]
         pipe = asyncio.subprocess.PIPE
@@ -120,18 +135,24 @@ class OwnDesk:
                 *words, stdout=pipe, stderr=pipe, preexec_fn=end_with_parent
             )
         except OSError as error:
+            self.is_final = True
             return f"the program {self.program} can't be run: {error.strerror}"
         assert self.process.stdout is not None and self.process.stderr is not None
         line = (await self.process.stdout.readline()).decode(errors="replace").strip()
         if line.startswith("listening 127.0.0.1:"):
             self.desk.url, self.desk.why_away = f"http://{line.split()[1]}", None
+            self.is_here()
             if not self.first_start.done():
                 self.first_start.set_result(None)
         last = b""
         async for said in self.process.stderr:
             last = said
         status = await self.process.wait()
+        self.is_final = status in self.FINAL
         return f"the desk ended with status {status}: {last.decode(errors='replace').strip()}"
+
+    def is_here(self) -> None:
+        """The desk takes requests from now on."""
 
     async def end(self) -> None:
         if self.process is not None and self.process.returncode is None:

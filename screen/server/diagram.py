@@ -5,8 +5,9 @@ from __future__ import annotations
 from collections.abc import Sequence
 from dataclasses import dataclass
 
-from .network import GRID
 from .reader import Device
+
+GRID = 0
 
 
 @dataclass(frozen=True)
@@ -84,3 +85,19 @@ def normal_ways(nodes: int, devices: Sequence[Device], layout: Layout, closed: S
             over = device.a if device.b == node else device.b
             holds[node] = holds[over] and closed[number]
     return holds
+
+
+def reached(nodes: int, devices: Sequence[Device], closed: Sequence[bool]) -> list[bool]:
+    """Whether a walk of closed devices leads from GRID to each node."""
+    beside: list[list[int]] = [[] for _ in range(nodes)]
+    for device, is_closed in zip(devices, closed):
+        if is_closed:
+            beside[device.a].append(device.b)
+            beside[device.b].append(device.a)
+    seen, found = [node == GRID for node in range(nodes)], [GRID]
+    for node in found:
+        for other in beside[node]:
+            if not seen[other]:
+                seen[other] = True
+                found.append(other)
+    return seen

@@ -127,7 +127,8 @@ class Tables:
             f"From {self.clock(shown['since'])} up to {self.clock(shown['until'])}{by}.",
             f"As of command {shown['number']}, printed {self.clock(shown['printed'])}{printer}. The book's period goes from "
             f"{self.clock(shown['first'])} to {self.clock(shown['last'])}. Times by the clock of the book's zone, "
-            f"{self.offset} from UTC where nothing else stands. Supply is computed here, from the book's rows.",
+            f"{self.offset} from UTC where nothing else stands. Open outages are those of the desk; outages that ended follow "
+            "from the book's rows.",
         ]
         count = shown["unanswered"]
         return lines + (

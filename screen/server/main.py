@@ -16,7 +16,9 @@ from .desk import Away, Desk, OwnDesk
 from .guard import Guard, Limits
 from .journal import Journal
 from .office import Office, new_state
-from .reader import BookError, Differs, Parser
+from .reader import BookError, Parser, read_later
+from .deskcopy import DeskCopy
+from .state import State
 from .web import Settings, application
 
 FIRST_ANSWER_SECONDS = 600
@@ -95,18 +97,35 @@ async def start_desk(given: argparse.Namespace, tasks: list[asyncio.Task[None]])
     return desk, own
 
 
+async def known_state(copy: DeskCopy, book: Path) -> State:
+    """The rows of a book that is looked at without its desk; the copy has what they have."""
+    why = await copy.first_start
+    if why:
+        raise BookError(why)
+    state = new_state(book)
+    for command, moves in read_later(book, copy.known):
+        if command.number <= state.number:
+            copy.note(command, moves)
+    return state
+
+
 async def serve(given: argparse.Namespace) -> None:
     ended = asyncio.Event()
     for each in (signal.SIGTERM, signal.SIGINT):
         asyncio.get_running_loop().add_signal_handler(each, ended.set)
     tasks: list[asyncio.Task[None]] = []
     desk, own = await start_desk(given, tasks)
+    book = given.book.resolve()
+    copy = DeskCopy(given.program, book)
+    tasks.append(asyncio.create_task(copy.keep()))
     try:
         log = given.log or given.book.with_name(f"{given.book.name}-screen.jsonl")
-        office = Office(
-            given.book.resolve(), new_state(given.book.resolve()), desk, Journal(None if given.no_desk else log)
-        )
+        state = await known_state(copy, book) if given.no_desk else new_state(book)
+        office = Office(book, state, desk, copy, Journal(None if given.no_desk else log))
+        tasks.append(asyncio.create_task(office.look_back()))
         if desk is not None:
+            if (await desk.ask("GET", f"/supply/{state.now()}")).status == 404:
+                raise BookError("the desk's program is older than this screen")
             office.note_start()
             tasks.append(asyncio.create_task(office.watch()))
         await listen(given, office, ended)
@@ -114,8 +133,9 @@ async def serve(given: argparse.Namespace) -> None:
         for task in tasks:
             task.cancel()
         await asyncio.gather(*tasks, return_exceptions=True)
-        if own is not None:
-            await own.end()
+        for each_desk in (own, copy):
+            if each_desk is not None:
+                await each_desk.end()
 
 
 async def listen(given: argparse.Namespace, office: Office, ended: asyncio.Event) -> None:
@@ -151,9 +171,6 @@ def main() -> int:
     logging.basicConfig(level=logging.ERROR)
     try:
         asyncio.run(serve(given))
-    except Differs as differs:
-        print(f"differs: {differs}", file=sys.stderr)
-        return 2
     except BookError as error:
         print(f"error: {error}", file=sys.stderr)
         return 1

@@ -3,23 +3,25 @@
 from __future__ import annotations
 
 import asyncio
-import json
 import re
 from collections import OrderedDict, deque
-from dataclasses import dataclass
+from collections.abc import Sequence
+from contextlib import suppress
 from pathlib import Path
 from typing import Any
 
 from . import refusals, undo, views
+from .answers import Plan, Supply, command_body, moves_in, plan_in, supply_in
 from .apart import Apart, Kept
-from .commands import FIELDS, accept, plan
+from .commands import FIELDS
 from .desk import IMPORT_SECONDS, Answer, Away, Desk
 from .journal import Journal
-from .reader import Command, Differs, Moves, moves_by_second_program, read_later, read_rows
-from .state import Refused, State
+from .reader import Command, Moves, Past, past_outages, read_later, read_rows
+from .deskcopy import DeskCopy
+from .state import State
 
 WATCH_SECONDS = 1.0
-KEPT_COUNTS = 2_000
+KEPT_UNDOS = 2_000
 KEPT_NEWS = 50
 WAITING_EVENTS = 64
 PLAIN = re.compile(r"0|[1-9][0-9]*|-")
@@ -52,24 +54,19 @@ class Hub:
         self.pages.pop(page, None)
 
 
-@dataclass(frozen=True)
-class Counted:
-    """What a command moved as counted here, and the kind and fields of the one that takes it back."""
-
-    moves: Moves
-    undo: tuple[str, ...] | None
-
-
 class Office:
-    def __init__(self, book: Path, state: State, desk: Desk | None, journal: Journal):
+    def __init__(self, book: Path, state: State, desk: Desk | None, copy: DeskCopy, journal: Journal):
         self.book, self.state, self.desk, self.journal = book, state, desk, journal
+        self.copy = copy
         self.state.sent = journal.sent
         self.hub = Hub()
         self.in_step = asyncio.Lock()
         self.rows, self.tables, self.reports = Apart("rows"), Apart("tables"), Apart("reports")
         self.kept: dict[str, Kept] = {}  # what is made of the whole book, by name
-        self.counted: OrderedDict[int, Counted] = OrderedDict()
+        self.undos: OrderedDict[int, tuple[str, ...] | None] = OrderedDict()  # by command: what takes it back
         self.news: deque[dict[str, Any]] = deque(maxlen=KEPT_NEWS)  # the outages that began last, latest first
+        self.past_order, self.past_of = asyncio.Lock(), -1
+        self.past_known: Past = {}  # as of the command `past_of`
         self.is_importing = False
         self.differs: str | None = None
         self.told_away: str | None = None
@@ -93,6 +90,7 @@ class Office:
         while True:
             try:
                 await self.look()
+                self.differs = None
             except Away:
                 pass
             except Exception as error:  # the watch goes on whatever a look met: the next one may succeed
@@ -119,35 +117,38 @@ class Office:
         """Takes the commands that the file has and the state has not."""
         known = self.state.number
         later = await self.rows.run(read_later, self.book, known)
-        try:
-            for command, moves in later:
-                self.take(command, moves)
-        except Refused as refused:  # the state isn't the book's: it is read anew, and that is told
-            self.differs = f"command {self.state.number + 1} was taken by the desk, and not here: {refused}"
-            self.state = await self.rows.run(new_state, self.book)
-            self.state.sent = self.journal.sent
+        for command, moves in later:
+            self.take(command, moves)
         if later:
-            self.tell_commands([command for command, _ in later], later[-1][1])
+            await self.tell_commands([command for command, _ in later], later[-1][1])
         if not self.is_importing and any(command.ref not in self.journal.sent for command, _ in later):
             self.journal.write("", "", commands=[known + 1, known + len(later)])
 
     def take(self, command: Command, moves: Moves) -> None:
-        """Takes the next command, and compares what was counted here with what the desk moved."""
-        undone = undo.undo_of(self.state, command)
-        here = accept(self.state, command)
-        self.counted[command.number] = Counted(here, undone)
-        while len(self.counted) > KEPT_COUNTS:
-            self.counted.popitem(last=False)
-        if here != moves and self.differs is None:
-            self.differs = f"command {command.number}: the desk moved {moves}, counted here {here}"
+        """Takes the next command."""
+        self.undos[command.number] = undo.undo_of(self.state, command)
+        self.state.take(command)
+        self.copy.note(command, moves)
+        while len(self.undos) > KEPT_UNDOS:
+            self.undos.popitem(last=False)
 
-    def tell_commands(self, commands: list[Command], moves: Moves) -> None:
+    async def tell_commands(self, commands: list[Command], moves: Moves) -> None:
         """Tells all pages of new commands: the last one, with what it moved, and the outages that they began."""
         moved = sum(amount for dim, _, amount in moves if dim == "cause")
-        shown, news = views.history_view(self.state, commands[-1]), views.news_view(self.state, commands)[:KEPT_NEWS]
+        news = await self.news_of(commands)
         self.news.extendleft(reversed(news))
+        shown = views.history_view(self.state, commands[-1])
         event = {"what": "commands", "count": len(commands), "command": shown, "moved": moved, "outages": news}
         self.hub.tell({**event, **self.desk_view()})
+
+    async def news_of(self, commands: list[Command]) -> list[dict[str, Any]]:
+        """The outages that some commands began; none where nobody can tell them now."""
+        if all(command.kind != "switch" for command in commands):
+            return []
+        try:
+            return views.news_view(self.state, commands, await self.supply_now(self.state.now()))[:KEPT_NEWS]
+        except Away:
+            return []
 
     async def learn(self, number: int, command: Command, moves: Moves) -> None:
         """Takes a command that the desk answered; those before it that came another way are read from the file."""
@@ -156,7 +157,7 @@ class Office:
                 await self.catch_up()
             if number == self.state.number + 1 and is_canonical(command):
                 self.take(command, moves)
-                self.tell_commands([command], moves)
+                await self.tell_commands([command], moves)
             elif number > self.state.number:
                 await self.catch_up()
 
@@ -180,15 +181,12 @@ class Office:
         reply = answer.json()
         if answer.status != 200:
             return answer.status, await self.refused(command, reply, answer)
-        number, moves = reply["no"], [(dim, key, amount) for dim, key, amount in reply["moved"]]
+        number, moves = reply["no"], moves_in(reply)
         await self.learn(number, accepted(number, command), moves)
         shown = {"reply": reply, "text": answer.body.decode(), "tries": tries, "again": number <= known}
         shown["entry"] = self.state.changed.get(number)
         shown["between"] = [] if seen is None else views.between_view(self.state, seen, number)
-        here = self.counted.get(number)
-        if here is not None:
-            shown |= {"counted": [list(move) for move in here.moves], "equal": here.moves == moves}
-            shown["undo"] = views.command_view(self.state, here.undo)
+        shown["undo"] = views.command_view(self.state, self.undos.get(number))
         return 200, shown
 
     async def refused(self, command: dict[str, str], reply: dict[str, Any], answer: Answer) -> dict[str, Any]:
@@ -221,20 +219,75 @@ class Office:
         self.journal.write(login, "", status=answer.status, answer=body_of(answer), commands=commands)
         return answer.status, {"reply": answer.json(), "text": answer.body.decode()}
 
-    def forecast(self, kind: str, fields: list[str]) -> dict[str, Any]:
-        return views.forecast_view(self.state, plan(self.state, kind, fields), kind, *fields)
+    # What the desk says; while it gives no answer, its copy.
 
-    # What the desk shows, word for word.
+    async def supply(self, second: int) -> Supply:
+        """The supply at a second of the period."""
+        found = await self.supply_now(second)
+        if self.desk is not None and not self.knows(found):
+            await self.look()
+        return found
 
-    async def moves_of(self, number: int) -> tuple[int, str]:
-        """The reply that a command had."""
+    async def supply_now(self, second: int) -> Supply:
+        try:
+            return supply_in(await self.ask_now(f"/supply/{second}"))
+        except Away:
+            return await self.copy.supply(second)
+
+    def knows(self, supply: Supply) -> bool:
+        """Whether the state has all that a supply speaks of: it may have come another way a moment ago."""
+        last = max((row.entry for row in supply.outages), default=0)
+        names = self.state.device_numbers.keys()
+        return last <= len(self.state.entries) and supply.closed.keys() == names
+
+    async def plan(self, kind: str, fields: Sequence[str]) -> Plan:
+        """What a command would do."""
+        try:
+            return plan_in(await self.ask_now("/plan", command_body(kind, fields)))
+        except Away:
+            return await self.copy.plan(kind, fields)
+
+    async def view(self, route: str) -> Any:
+        """One of the desk's views, as JSON."""
+        try:
+            return (await self.ask_now(route)).json()
+        except Away:
+            return (await self.copy.ask(route)).json()
+
+    async def ask_now(self, route: str, body: bytes | None = None) -> Answer:
+        if self.desk is None:
+            raise Away("there is no desk")
+        return await self.desk.look(route, body)
+
+    async def moves_of(self, number: int) -> str | None:
+        """The reply that a command had, word for word; None where there is none."""
         if self.desk is not None:
             answer = await self.desk.ask("GET", f"/commands/{number}")
-            return answer.status, answer.body.decode()
-        if not 1 <= number <= self.state.number:
-            return 404, ""
-        moves = await self.tables.run(moves_by_second_program, self.book, number)
-        return 200, json.dumps({"moved": moves, "no": number}, separators=(",", ":"))
+        else:
+            answer = await self.copy.ask(f"/commands/{number}")
+        return answer.body.decode() if answer.status == 200 else None
+
+    async def look_back(self) -> None:
+        """Finds past outages before somebody asks for them: in a long book that takes some seconds."""
+        await self.past()
+
+    async def past(self) -> Past:
+        """All outages: those of the rows once, by the tools, and from then on as the copy of the desk says that commands change
+        them."""
+        async with self.past_order:
+            state, followed = self.state, None
+            if self.past_of == state.number:
+                return self.past_known
+            with suppress(Away):
+                followed = await self.copy.changes_after(self.past_of) if self.past_known else None
+            if followed is not None:
+                self.past_of, changes = followed
+                self.past_known.update((change.section, change.after) for change in changes)
+            else:
+                number, rows = state.number, (list(state.nodes), list(state.devices), list(state.entries))
+                self.past_known = await self.tables.run(past_outages, state.period, *rows)
+                self.past_of = number
+            return self.past_known
 
 
 def away_words() -> str:
@@ -271,13 +324,5 @@ def accepted(number: int, command: dict[str, str]) -> Command:
 
 
 def new_state(book: Path) -> State:
-    """The state of a book's file. What is counted here at the start has to be the book's own amounts."""
-    rows = read_rows(book)
-    state = State(rows)
-    numbers = {"cause": 1, "feeder": 2, "day": 3}
-    here = {(numbers[dim], key): amount for (dim, key), amount in state.amounts().items() if amount}
-    there = {key: amount for key, amount in rows.postings.items() if amount}
-    for key in sorted(here.keys() | there.keys()):
-        if here.get(key, 0) != there.get(key, 0):
-            raise Differs(f"customer-seconds of dimension {key[0]}, key {key[1]}", here.get(key, 0), there.get(key, 0))
-    return state
+    """The state of a book's file."""
+    return State(read_rows(book))

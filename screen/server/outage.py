@@ -4,19 +4,24 @@ from __future__ import annotations
 
 import copy
 import json
+from collections import defaultdict
 from collections.abc import Sequence
+from itertools import chain
 
-from .commands import FIELDS, Plan, plan
+from .answers import NotPlanned
+from .commands import FIELDS
+from .desk import Away
+from .forecasts import ahead_of, changes_of, forecast_view, late_hints, notes_of, refusal_words, second_of
 from .names import outage_in
-from .reader import Entry
-from .state import Change, Refused, State
-from .views import Json, entry_view, forecast_view, late_hints, reference_of
+from .office import Office
+from .reader import Entry, Moves
+from .deskcopy import Step, Tried
+from .state import NotNow, Refused, State
+from .views import Json, entry_view, reference_of
 
 MOST_STEPS = 30
-SHOWN = ("words", "reason", "total", "future")  # of the forecast of each step
+SHOWN = ("words", "reason", "total", "future", "sections", "hints")  # of the forecast of each step
 KINDS = ("switch", "correct", "withdraw")
-Step = Sequence[str]  # a command's kind and its fields
-Order = Sequence[int]  # places of steps
 
 
 def steps_in(text: str) -> list[Step]:
@@ -37,65 +42,63 @@ def is_step(found: object) -> bool:
     return words[0] != "switch" or (words[3].isdecimal() and len(words[3]) < 12)
 
 
-def forecast(state: State, steps: Sequence[Step]) -> Json:
-    """What some steps would do: each on what those before it in time leave, all together, and what each moves in the order in
-    which they are sent."""
-    in_time = order_in_time(steps)
-    last, plans = walk(state, steps, in_time)
+async def forecast(office: Office, steps: Sequence[Step]) -> Json:
+    """What some steps would do, as they were tried on a copy of the desk: each on what those before it in time leave, all
+    together, and what each moves in the order in which they are sent."""
+    state, in_time = office.state, order_in_time(steps)
     order = order_to_send(state, steps, in_time)
-    sent = plans if order == in_time else walk(state, steps, order)[1]
-    rows: list[Json] = [
-        step_view(before, planned, steps[place]) | {"place": place} for place, (before, planned) in zip(in_time, plans)
-    ]
-    whole = together(state, last, [planned for _, planned in plans])
-    ahead = [planned.second - state.now() for _, planned in plans if planned.second is not None]
+    try:
+        tried, *sent = await office.copy.walk(steps, [in_time] if order == in_time else [in_time, order])
+    except NotPlanned as refused:
+        kind, *fields = steps[refused.reply["step"]]
+        raise Refused(f"step {refused.reply['step'] + 1}: {refusal_words(state, kind, fields, refused)}") from None
+    except Away as away:
+        raise NotNow(f"what these steps would do isn't known now, since they can't be tried: {away}") from None
+    rows, before = list[Json](), state
+    for place, step in zip(in_time, tried):
+        rows.append({**step_view(before, steps[place], step), "place": place})
+        before = with_step(before, *steps[place])
+    kind, *fields = steps[in_time[0]]
+    plans = [each.plan for each in tried]
+    whole = forecast_view(state, kind, fields, added([plan.moves for plan in plans]), changes_of(plans))
+    ahead = [ahead_of(state, second_of(kind, fields)) for kind, *fields in steps]
     return {
-        **forecast_view(state, whole, *steps[in_time[0]]),
-        "hints": late_hints("switch", min(ahead, default=0)),
+        **whole,
+        "hints": late_hints("switch", -min(ahead)),
         "future": next((row["future"] for row in reversed(rows) if row["future"]), None),
         "words": "; ".join(row["words"] for row in rows),
         "steps": rows,
         "order": list(order),
-        "sent": [[list(move) for move in planned.moves] for _, planned in sent],
+        "sent": [[list(move) for move in each.plan.moves] for each in (sent or [tried])[0]],
     }
 
 
-def step_view(state: State, planned: Plan, step: Step) -> Json:
+def step_view(state: State, step: Step, tried: Tried) -> Json:
     """What a step would do; of the sections those whose supply changes at its second, and not only later on."""
-    shown = forecast_view(state, planned, *step)
-    sections = [row for row in shown["sections"] if planned.second in (None, row["since"]["second"])]
-    return {**{name: shown[name] for name in SHOWN}, "sections": sections, "hints": list(planned.hints)}
+    kind, *fields = step
+    shown = forecast_view(state, kind, fields, tried.plan.moves, changes_of([tried.plan]))
+    shown |= notes_of(state, kind, fields, tried.before, bool(shown["sections"]))
+    second = second_of(kind, fields)
+    shown["sections"] = [row for row in shown["sections"] if second in (None, row["since"]["second"])]
+    return {name: shown[name] for name in SHOWN}
 
 
-def walk(state: State, steps: Sequence[Step], order: Order) -> tuple[State, list[tuple[State, Plan]]]:
-    """The state that steps leave, taken in an order, and each step's plan with the state before it."""
-    plans = []
-    for place in order:
-        kind, *fields = steps[place]
-        try:
-            planned = plan(state, kind, fields)
-        except Refused as refused:
-            raise Refused(f"step {place + 1}: {refused}") from None
-        plans.append((state, planned))
-        state = with_plan(state, planned)
-    return state, plans
-
-
-def with_plan(state: State, planned: Plan) -> State:
-    """A state as a switching would leave it; the one that is kept in step with the book stays as it is."""
+def with_step(state: State, kind: str, *fields: str) -> State:
+    """The rows with a step; those that are kept in step with the book stay as they are."""
     after = copy.copy(state)
-    after.runs = dict(state.runs)
-    after.adopt(planned.change, planned.sheet)
+    after.entries = list(state.entries)
+    getattr(after, f"take_{kind}")(*fields)
     return after
 
 
-def together(state: State, last: State, plans: Sequence[Plan]) -> Plan:
-    """All that some plans change, as one."""
-    nodes = {node for planned in plans for node in planned.change.after}
-    before = {node: state.runs.get(node, []) for node in nodes}
-    after = {node: last.runs.get(node, []) for node in nodes}
-    moves = state.moves_between(last.sheet, before, after)
-    return Plan(Change(None, before, after, moves), last.sheet, lambda _: None)
+def added(lists: Sequence[Moves]) -> Moves:
+    """Moves of several commands, added up: as the desk lists them."""
+    sums: dict[tuple[str, int], int] = defaultdict(int)
+    for dim, key, amount in chain.from_iterable(lists):
+        sums[dim, key] += amount
+    places = ("cause", "feeder", "day")
+    kept = [(dim, key, amount) for (dim, key), amount in sums.items() if amount]
+    return sorted(kept, key=lambda move: (places.index(move[0]), move[1]))
 
 
 def order_in_time(steps: Sequence[Step]) -> list[int]:
@@ -115,8 +118,8 @@ def order_to_send(state: State, steps: Sequence[Step], in_time: list[int]) -> li
 
 
 def is_return(state: State, step: Step) -> bool:
-    device = state.sheet.devices[state.device_numbers[step[1]]]
-    return device.is_closed == (step[2] == "close")
+    device = state.device_numbers.get(step[1])
+    return device is not None and state.devices[device].is_closed == (step[2] == "close")
 
 
 def outage_view(state: State, number: int) -> Json:
@@ -126,6 +129,6 @@ def outage_view(state: State, number: int) -> Json:
     def is_part(entry: Entry) -> bool:
         return entry.is_kept and name is not None and outage_in(reference_of(state, entry.number)) == name
 
-    entries = [entry for entry in state.sheet.entries if entry.number == number or is_part(entry)]
+    entries = [entry for entry in state.entries if entry.number == number or is_part(entry)]
     entries.sort(key=lambda each: (each.second, each.number))
     return {"outage": name, "entries": [entry_view(state, entry, set()) for entry in entries]}

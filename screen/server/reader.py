@@ -4,6 +4,7 @@ from __future__ import annotations
 
 import sqlite3
 import sys
+from collections.abc import Sequence
 from contextlib import closing
 from dataclasses import dataclass
 from pathlib import Path
@@ -14,15 +15,22 @@ sys.path.insert(1, str(TOOLS))  # in the clone, or where both are installed
 
 from outage_tools.cli import Parser  # noqa: E402
 from outage_tools.copies import copy_of  # noqa: E402
-from outage_tools.errors import BookError, Differs  # noqa: E402
-from outage_tools.rows import Device, Entry, Period, Section, read_book  # noqa: E402
+from outage_tools.counts import Counts, indices_of, quotient_text  # noqa: E402
+from outage_tools.errors import BookError  # noqa: E402
+from outage_tools.rows import Book, Device, Entry, Period, Section, read_book  # noqa: E402
+from outage_tools.sweep import LONGEST_MOMENTARY, sweep  # noqa: E402
 from outage_tools.zone import Zone  # noqa: E402
 
-__all__ = ["BookError", "Command", "Device", "Differs", "Entry", "Period", "Rows", "Parser", "Section", "Zone"]
-__all__ += ["command_of", "copy_of", "moves_by_second_program", "read_later", "read_rows", "report_words", "tool_words"]
+__all__ = ["BookError", "Command", "Counts", "Device", "Entry", "LONGEST_MOMENTARY", "Parser", "Past", "Period", "Rows"]
+__all__ += ["Zone", "command_of", "copy_of", "counts_of", "indices_of", "past_outages", "quotient_text", "read_later"]
+__all__ += ["read_rows", "report_words", "tool_words"]
 
 DIMENSIONS = {1: "cause", 2: "feeder", 3: "day"}
 Moves = list[tuple[str, int, int]]
+Nodes = list[tuple[str, int, int]]  # name, kind, home feeder
+Past = dict[
+    str, list[tuple[int, int, int]]
+]  # all outages of each section: since, until, the entry that cut it off, or 0
 Service = tuple[int, int, int | None]  # section, since, until
 
 
@@ -42,13 +50,22 @@ class Rows:
 
     period: Period
     causes: dict[int, str]
-    nodes: list[tuple[str, int, int]]  # name, kind, home feeder
+    nodes: Nodes
     devices: list[Device]
     entries: list[Entry]
     customers: dict[int, Service]
     marks: dict[int, str]
-    postings: dict[tuple[int, int], int]
     commands: list[Command]
+
+
+def past_outages(period: Period, nodes: Nodes, devices: Sequence[Device], entries: Sequence[Entry]) -> Past:
+    """All outages, by the tools' sweep over a book's rows."""
+    sections = {node: Section(node, name, feeder) for node, (name, kind, feeder) in enumerate(nodes) if kind == 2}
+    names = {node: name for node, (name, _, _) in enumerate(nodes)}
+    found: Past = {section.name: [] for section in sections.values()}
+    for run in sweep(Book(2, period, {}, names, sections, tuple(devices), (), tuple(entries), {}, {})):
+        found[names[run.section]].append((run.since, run.until, run.cutter.number if run.cutter else 0))
+    return found
 
 
 def command_of(number: int, ref: str, body: str) -> Command:
@@ -78,7 +95,6 @@ def rows_of(database: sqlite3.Connection) -> Rows:
         entries=list(book.entries),
         customers={number: (section, since, until) for number, section, since, until in customers},
         marks=dict(book.marks),
-        postings=dict(book.postings),
         commands=[command_of(*row) for row in commands],
     )
 
@@ -100,10 +116,13 @@ def moves_of(database: sqlite3.Connection, number: int) -> Moves:
     return [(DIMENSIONS[dim], key, delta) for dim, key, delta in rows]
 
 
-def moves_by_second_program(path: Path, number: int) -> Moves:
-    """What a command moved, read from the file alone, where there is no desk."""
-    with copy_of(path) as copy, closing(sqlite3.connect(f"{copy.as_uri()}?mode=ro", uri=True)) as database:
-        return moves_of(database, number)
+def counts_of(copy: Path) -> tuple[int, int]:
+    """How many commands and entries a copy of a book has."""
+    with closing(sqlite3.connect(f"{copy.as_uri()}?mode=ro", uri=True)) as database:
+        found: tuple[int, int] = database.execute(
+            "SELECT (SELECT count(*) FROM cmd), (SELECT count(*) FROM entry)"
+        ).fetchone()
+        return found
 
 
 def tool_words(tool: str) -> list[str]:

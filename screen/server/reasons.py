@@ -2,25 +2,26 @@
 
 from __future__ import annotations
 
-from .commands import Plan
-from .diagram import layout_of
-from .network import Supply
-from .state import Sheet, State
+from .answers import Supply
+from .diagram import layout_of, reached
+from .state import State
 
 MOST_NAMED = 3
 
 
-def still_cut_off(state: State, planned: Plan) -> str | None:
-    """What keeps a device without supply at the second at which a plan closes it; nothing where it gets supply then."""
-    if planned.device is None or planned.second is None:
+def still_cut_off(state: State, supply: Supply, number: int, entry: int) -> str | None:
+    """What keeps a device without supply at the second at which an entry closes it; nothing where it gets supply then. The
+    supply is that before the entry."""
+    device, second = state.devices[number], supply.second
+    same = [each for each in state.entries if each.device == number and each.is_kept and each.second == second]
+    closed = [supply.closed[each.name] and supply.alive[each.name] for each in state.devices]
+    closed[number] = supply.alive[device.name]
+    if not closed[number] or any(each.number > entry for each in same):
         return None
-    sheet, second = planned.sheet, planned.second
-    closed = sheet.closed_at(second)
-    device = sheet.devices[planned.device]
-    if not closed[device.number] or Supply(len(state.nodes), sheet.devices, closed).supplied[device.a]:
+    if reached(len(state.nodes), state.devices, closed)[device.a]:
         return None
-    above = open_above(state, sheet, device.number, closed)
-    words = [open_words(state, sheet, number, second) for number in above[:MOST_NAMED]]
+    above = open_above(state, number, closed)
+    words = [open_words(state, supply, each) for each in above[:MOST_NAMED]]
     more = f" and {len(above) - MOST_NAMED} more" if len(above) > MOST_NAMED else ""
     return (
         f"Still cut off: above it {', '.join(words)}{more}."
@@ -29,23 +30,24 @@ def still_cut_off(state: State, planned: Plan) -> str | None:
     )
 
 
-def open_above(state: State, sheet: Sheet, number: int, closed: list[bool]) -> list[int]:
+def open_above(state: State, number: int, closed: list[bool]) -> list[int]:
     """The open devices between a device and GRID, by the ways of normal positions; the nearest one first."""
-    layout = layout_of(len(state.nodes), sheet.devices)
-    node = min((sheet.devices[number].a, sheet.devices[number].b), key=lambda each: layout.layer[each])
+    layout = layout_of(len(state.nodes), state.devices)
+    node = min((state.devices[number].a, state.devices[number].b), key=lambda each: layout.layer[each])
     found = []
     while (over := layout.above.get(node)) is not None:
         if not closed[over]:
             found.append(over)
-        device = sheet.devices[over]
+        device = state.devices[over]
         node = device.a if device.b == node else device.b
     return found
 
 
-def open_words(state: State, sheet: Sheet, number: int, second: int) -> str:
+def open_words(state: State, supply: Supply, number: int) -> str:
     """Since when a device is open."""
-    device, entry = sheet.devices[number], sheet.holds(sheet.devices[number], second + 1)
-    if not device.is_alive(second):
+    device = state.devices[number]
+    entry = state.last_entry(device, supply.second)
+    if not supply.alive[device.name]:
         return f"{device.name} isn't in the network"
     if entry is None:
         return f"{device.name} is normally open"

@@ -9,6 +9,19 @@ from .state import State
 from .views import entry_view, text
 
 FIRST_FIELD = 3
+SHOWN_LETTERS = 40  # of a text that can't be read
+NAME = "1 to 24 of A-Z, 0-9, - and _"
+CREW, MOMENT = "1 to 16 of A-Z, 0-9, - and _", "a second, or a moment with its offset"
+SPELLINGS = {
+    **dict.fromkeys(("crew", "engineer"), CREW),
+    **dict.fromkeys(("second", "since", "until", "beginning", "end"), MOMENT),
+    **dict.fromkeys(("code", "cause"), "a number of 1 to 2 digits"),
+    **dict.fromkeys(("customer", "entry", "revision"), "a number of 1 to 10 digits"),
+    "home feeder": "a number from 1 to 255",
+    "day": "a date",
+    "position": "open or close",
+    "normal position": "open or closed",
+}
 PLAIN = {
     3: "The name, the code or the customer's number is in use already.",
     6: "No entry of the sheet has this number.",
@@ -48,10 +61,14 @@ def words_of(state: State, command: dict[str, str], reply: dict[str, Any]) -> st
 
 
 def bad_field(command: dict[str, str], column: object) -> str:
+    """Which field can't be read, and what it has to be."""
     names = FIELDS.get(command["kind"], ())
     place = column - FIRST_FIELD if isinstance(column, int) else -1
-    which = names[place] if 0 <= place < len(names) else "reference" if column == 2 else "command"
-    return f"The {which} can't be read: names are of A-Z, 0-9, - and _, at most 24 of them (a crew: 16)."
+    if not 0 <= place < len(names):
+        return f"The {'reference' if column == 2 else 'command'} can't be read."
+    name, text = names[place], command.get(f"f{place + 1}", "")[:SHOWN_LETTERS]
+    words = SPELLINGS.get(name, NAME)
+    return f"The {name} {text} can't be read, it has to be {words}." if text else f"The {name} is missing."
 
 
 def unknown_name(state: State, command: dict[str, str]) -> str:
@@ -69,6 +86,6 @@ def unknown_name(state: State, command: dict[str, str]) -> str:
 def stale_entry(state: State, command: dict[str, str]) -> dict[str, Any] | None:
     """What the entry of a correction or a withdrawal is now."""
     number = command.get("f1", "")
-    if command["kind"] in ("correct", "withdraw") and number.isdigit() and 1 <= int(number) <= len(state.sheet.entries):
-        return entry_view(state, state.sheet.entries[int(number) - 1])
+    if command["kind"] in ("correct", "withdraw") and number.isdigit() and 1 <= int(number) <= len(state.entries):
+        return entry_view(state, state.entries[int(number) - 1])
     return None

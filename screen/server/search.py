@@ -7,8 +7,8 @@ from collections.abc import Callable
 
 from .moments import DAYS_BACK, day_of_word
 from .names import NAME
-from .reader import Entry
-from .state import SECTION, Refused, State
+from .reader import Entry, Past
+from .state import Refused, State
 from .views import Json, day_name, entry_view, text
 
 PAGE_ROWS = 100
@@ -17,11 +17,16 @@ ORDERS = ("", "newest", "second")
 Test = Callable[[Entry], bool]
 
 
-def sheet_view(state: State, wanted: dict[str, str]) -> Json:
-    """A page of the entries that are asked for, newest first or by second."""
+def wants_past(wanted: dict[str, str]) -> bool:
+    """Whether a search asks for what cut sections off."""
+    return any(wanted.get(name, "").strip() for name in ("section", "feeder"))
+
+
+def sheet_view(state: State, wanted: dict[str, str], past: Past) -> Json:
+    """A page of the entries that are asked for, newest first or by second; `past` are all outages, where they are asked for."""
     late = state.late_entries()
-    tests = tests_of(state, wanted, late)
-    found = [entry for entry in state.sheet.entries if all(test(entry) for test in tests)]
+    tests = tests_of(state, wanted, late, past)
+    found = [entry for entry in state.entries if all(test(entry) for test in tests)]
     if wanted.get("order", "") not in ORDERS:
         raise Refused(f"there is no order {wanted['order']}")
     if wanted.get("order") == "second":
@@ -33,21 +38,21 @@ def sheet_view(state: State, wanted: dict[str, str]) -> Json:
     return {
         "number": state.number,
         "found": len(found),
-        "of": len(state.sheet.entries),
+        "of": len(state.entries),
         "from": begin,
         "day": day_of(state, wanted["day"]) if wanted.get("day") else "",
         "rows": [entry_view(state, entry, late) for entry in shown],
     }
 
 
-def tests_of(state: State, wanted: dict[str, str], late: set[int]) -> list[Test]:
+def tests_of(state: State, wanted: dict[str, str], late: set[int], past: Past) -> list[Test]:
     """What the fields of a search ask of an entry; an empty field asks for nothing."""
     filters: dict[str, Callable[[State, str], Test]] = {
         "device": of_device,
         "crew": of_crew,
         "cause": of_cause,
-        "section": of_section,
-        "feeder": of_feeder,
+        "section": lambda state, typed: of_section(state, typed, past),
+        "feeder": lambda state, typed: of_feeder(state, typed, past),
         "day": of_day,
         "marked": lambda state, typed: of_status(state, typed, late),
     }
@@ -56,9 +61,9 @@ def tests_of(state: State, wanted: dict[str, str], late: set[int]) -> list[Test]
 
 def of_device(state: State, typed: str) -> Test:
     name = typed.upper()
-    if not any(name in device.name for device in state.sheet.devices):
+    if not any(name in device.name for device in state.devices):
         raise Refused(f"no device has {name} in its name")
-    return lambda entry: name in state.sheet.devices[entry.device].name
+    return lambda entry: name in state.devices[entry.device].name
 
 
 def of_crew(state: State, typed: str) -> Test:
@@ -90,25 +95,24 @@ def day_of(state: State, typed: str) -> str:
     return day
 
 
-def of_section(state: State, typed: str) -> Test:
+def of_section(state: State, typed: str, past: Past) -> Test:
     part = typed.upper()
-    return of_sections(
-        state, {number for number, (name, _, _) in enumerate(state.nodes) if part in name}, f"has {part} in its name"
-    )
+    numbers = {number for number, (name, _, _) in enumerate(state.nodes) if part in name}
+    return of_sections(state, numbers, past, f"has {part} in its name")
 
 
-def of_feeder(state: State, typed: str) -> Test:
+def of_feeder(state: State, typed: str, past: Past) -> Test:
     numbers = {number for number, (_, _, feeder) in enumerate(state.nodes) if str(feeder) == typed}
-    return of_sections(state, numbers, f"has the home feeder {typed}")
+    return of_sections(state, numbers, past, f"has the home feeder {typed}")
 
 
-def of_sections(state: State, nodes: set[int], words: str) -> Test:
+def of_sections(state: State, nodes: set[int], past: Past, words: str) -> Test:
     """Entries of the devices at some sections, and those that cut them off."""
-    nodes = {number for number in nodes if state.nodes[number][1] == SECTION}
+    nodes = {number for number in nodes if state.is_section(number)}
     if not nodes:
         raise Refused(f"no section {words}")
-    at_them = {device.number for device in state.sheet.devices if not nodes.isdisjoint((device.a, device.b))}
-    cutters = {run.cutter for node in nodes for run in state.runs.get(node, [])}
+    at_them = {device.number for device in state.devices if not nodes.isdisjoint((device.a, device.b))}
+    cutters = {entry for node in nodes for _, _, entry in past.get(state.nodes[node][0], ())}
     return lambda entry: entry.device in at_them or entry.number in cutters
 
 

@@ -9,12 +9,14 @@ from collections.abc import Iterable
 from datetime import date, timedelta
 from itertools import islice
 
+from .answers import Outage
 from .commands import FIELDS
 from .journal import ELSEWHERE, IMPORT, Sending
 from .moments import DAYS_BACK, LAST, day_of_word, read_moment
 from .names import name_in
 from .office import Office
-from .state import Refused, Run, State
+from .reader import Past
+from .state import Refused, State
 from .views import Json, command_words, day_name, entry_view, moment, outage_view, text
 
 SHIFT_SECONDS = 8 * 3_600
@@ -104,8 +106,8 @@ def elsewhere_words(state: State, first: int, last: int) -> str:
 
 def device_of(state: State, entry: str) -> str:
     """The device of an entry, for words that name its number alone."""
-    known = re.fullmatch(r"\d{1,6}", entry, re.ASCII) and 1 <= int(entry) <= len(state.sheet.entries)
-    return state.sheet.devices[state.sheet.entries[int(entry) - 1].device].name if known else ""
+    known = re.fullmatch(r"\d{1,6}", entry, re.ASCII) and 1 <= int(entry) <= len(state.entries)
+    return state.devices[state.entries[int(entry) - 1].device].name if known else ""
 
 
 def result_of(sending: Sending, entry: int | None) -> str:
@@ -127,10 +129,11 @@ def numbers_words(first: int, last: int) -> str:
 # What a shift hands over.
 
 
-def shift_view(office: Office, wanted: dict[str, str]) -> Json:
+async def shift_view(office: Office, wanted: dict[str, str]) -> Json:
     """Open outages, and what changed from a second up to another, by whom."""
     state, part = office.state, wanted.get("name", "").strip().upper()
     since, until = bounds_of(state, wanted, int(time.time()) - SHIFT_SECONDS)
+    supply, past = await office.supply(state.now()), await office.past()
     sendings = list(office.journal.between(since, until, part))
     entered = entered_by(state, sendings)
     rest = [each for each in sendings if not is_entered(state, each)]
@@ -139,11 +142,11 @@ def shift_view(office: Office, wanted: dict[str, str]) -> Json:
         "first": moment(state, state.period.first),
         "last": moment(state, state.period.end - 1),
         "printed": moment(state, int(time.time())),
-        "as_of": moment(state, state.now()),
+        "as_of": moment(state, supply.second),
         "since": moment(state, since),
         "until": moment(state, min(until, int(time.time()))),
-        "open": open_view(state),
-        "ended": ended_view(state, since, until),
+        "open": outages_of(state, supply.outages),
+        "ended": ended_view(state, past, since, until),
         "entered": entered_view(state, dict(islice(entered.items(), MOST_ROWS))),
         "entered_found": len(entered),
         "rest": [sending_view(state, each) for each in rest[:MOST_ROWS]],
@@ -169,7 +172,7 @@ def is_open(office: Office, sending: Sending) -> bool:
 def entered_view(state: State, found: dict[int, list[Json]]) -> list[Json]:
     """Entries as they are now, each with what was done to it."""
     late = state.late_entries()
-    shown = [(entry_view(state, state.sheet.entries[entry - 1], late), done) for entry, done in found.items()]
+    shown = [(entry_view(state, state.entries[entry - 1], late), done) for entry, done in found.items()]
     return [{**row, "withdrawn": not row["kept"], "done": done} for row, done in shown]
 
 
@@ -199,12 +202,12 @@ def numbers_of(state: State, sending: Sending) -> list[int]:
     return sorted((number for number in shorter if number in span and number in state.changed), reverse=True)
 
 
-def outages_of(state: State, runs: Iterable[tuple[int, Run]], at: int) -> list[Json]:
+def outages_of(state: State, outages: Iterable[Outage]) -> list[Json]:
     """Outages of sections, gathered by what cut them off; those of most customers first."""
     found: dict[tuple[int, int], Json] = {}
-    for node, run in runs:
-        row = outage_view(state, node, run, at if run.since <= at < run.until else run.since)
-        key = run.cutter, 0 if run.cutter else run.since
+    for each in outages:
+        row = outage_view(state, each)
+        key = each.entry, 0 if each.entry else each.since
         whole = found.setdefault(key, {**row, "sections": [], "customers": 0, "feeders": [], "until": row["until"]})
         whole["sections"].append(row["section"])
         whole["customers"] += row["customers"]
@@ -216,21 +219,17 @@ def outages_of(state: State, runs: Iterable[tuple[int, Run]], at: int) -> list[J
     return sorted(found.values(), key=lambda row: (-row["customers"], row["since"]["second"]))
 
 
-def sections_with_runs(state: State) -> Iterable[tuple[int, Run]]:
-    return ((node, run) for node, runs in state.runs.items() if state.is_section(node) for run in runs)
-
-
-def open_view(state: State) -> list[Json]:
-    """The outages that go on now, as the book stands."""
-    at = state.now()
-    nodes = (node for node in state.runs if state.is_section(node))
-    return outages_of(state, ((node, run) for node in nodes if (run := state.run_at(node, at)) is not None), at)
-
-
-def ended_view(state: State, since: int, until: int) -> list[Json]:
+def ended_view(state: State, past: Past, since: int, until: int) -> list[Json]:
     """The outages that ended from a second up to another, and not at the period's end."""
     end = min(until, state.now() + 1, state.period.end)
-    return outages_of(state, (each for each in sections_with_runs(state) if since <= each[1].until < end), -1)
+    found = ((name, row) for name, rows in past.items() for row in rows if since <= row[1] < end)
+    return outages_of(state, (ended(state, name, *row) for name, row in found))
+
+
+def ended(state: State, section: str, since: int, until: int, entry: int) -> Outage:
+    """A past outage, with the customers that it had when it began."""
+    customers = state.customers_at(state.node_numbers[section], since)
+    return Outage(section, since, until, entry, state.entries[entry - 1].cause if entry else 0, customers)
 
 
 def marks_view(office: Office) -> list[Json]:

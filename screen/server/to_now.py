@@ -1,112 +1,26 @@
 """Figures up to a second: what a book whose period goes on says before its open outages are counted to the period's end.
 
-By the definitions of the annual table, with the period cut at that second: computed here. At the period's end they are the
-table's own figures.
+They are the desk's figures of the whole period, less what outages that the desk knows of count behind that second for the
+customers who are in service then. At the period's end nothing is left out.
 """
 
 from __future__ import annotations
 
 import time
-from dataclasses import dataclass
+from collections import defaultdict
+from collections.abc import Container, Iterable, Sequence
 from fractions import Fraction
-from functools import lru_cache
 from typing import Any
 
-from .state import SECTION, Moved, Run, State
+from .answers import Outage
+from .desk import Away
+from .office import Office
+from .reader import LONGEST_MOMENTARY, Counts, indices_of, quotient_text
+from .state import State
 
 Json = dict[str, Any]
-SUSTAINED_SECONDS = 300  # an interruption that lasts longer is sustained
-SETS = ("all", "unmarked")
-
-
-@dataclass
-class Count:
-    """Sustained interruptions, and their seconds over all customers."""
-
-    interruptions: int = 0
-    seconds: int = 0
-
-    def add(self, customers: int, seconds: int) -> None:
-        self.interruptions += customers
-        self.seconds += customers * seconds
-
-
-def counts_up_to(state: State, end: int, marked: set[int]) -> dict[str, Count]:
-    """The sustained interruptions of a period that ends at a second: all, and those that don't begin on a marked day."""
-    found = {name: Count() for name in SETS}
-    for node, runs in state.runs.items():
-        if state.is_section(node):
-            for run in runs:
-                count_run(state, node, Run(run.since, min(run.until, end), run.cutter), marked, found)
-    return found
-
-
-def count_run(state: State, node: int, run: Run, marked: set[int], found: dict[str, Count]) -> None:
-    """Counts what the customers of a section have of an outage: their service is cut, and each has its own seconds."""
-    for (since, until), customers in state.roll(node).services.items():
-        begin, over = max(run.since, since), run.until if until is None else min(run.until, until)
-        if over - begin > SUSTAINED_SECONDS:
-            found["all"].add(customers, over - begin)
-            if state.period.day_of(begin) not in marked:
-                found["unmarked"].add(customers, over - begin)
-
-
-def served_up_to(state: State, end: int) -> int:
-    """Customer-seconds in service up to a second."""
-    nodes = (number for number, (_, kind, _) in enumerate(state.nodes) if kind == SECTION)
-    return sum(state.roll(node).between(state.period.first, end) for node in nodes)
-
-
-def index(numerator: int, denominator: int) -> list[str]:
-    """A quotient as the annual table has it: in lowest terms, then rounded half up to three decimals."""
-    if denominator == 0:
-        return ["undefined"]
-    value = Fraction(numerator, denominator)
-    thousandths = (2_000 * value.numerator + value.denominator) // (2 * value.denominator)
-    return [f"{value.numerator}/{value.denominator}", f"{thousandths // 1_000}.{thousandths % 1_000:03}"]
-
-
-def indices_of(count: Count, served: int, length: int) -> dict[str, list[str]]:
-    return {
-        "SAIFI": index(count.interruptions * length, served),
-        "SAIDI": index(count.seconds * length, 60 * served),
-        "CAIDI": index(count.seconds, 60 * count.interruptions),
-        "ASAI": index(served - count.seconds, served),
-    }
-
-
-@lru_cache(maxsize=1)
-def figures(state: State, number: int, end: int) -> Json:
-    """The figures of a state, as of its command `number`, up to a second."""
-    served, length = served_up_to(state, end), end - state.period.first
-    counts = counts_up_to(state, end, set(state.marks))
-    indices = {name: indices_of(count, served, length) for name, count in counts.items()}
-    return {
-        "indices": {name: {each: indices[each][name] for each in SETS} for name in indices["all"]},
-        "totals": {"P": length, "S": served},
-        **amounts_up_to(state, end),
-    }
-
-
-def amounts_up_to(state: State, end: int) -> Json:
-    """Customer-seconds without supply before a second, by cause, feeder and day."""
-    moved = Moved(state.period)
-    for node, runs in state.runs.items():
-        if state.is_section(node):
-            for run in runs:
-                cut = Run(run.since, min(run.until, end), run.cutter)
-                if cut.since < cut.until:
-                    moved.add(state.roll(node), cut, state.cause_of(state.sheet, run.cutter), state.nodes[node][2], 1)
-    found: dict[str, list[list[Any]]] = {"cause": [], "feeder": [], "day": []}
-    for dim, key, amount in moved.listed():
-        found[dim].append([key, amount])
-    days = [[state.period.days[day].isoformat(), amount, day in state.marks] for day, amount in found["day"]]
-    return {
-        "W": sum(amount for _, amount in found["cause"]),
-        "causes": found["cause"],
-        "feeders": found["feeder"],
-        "days": days,
-    }
+NAMES = ("SAIFI", "SAIDI", "CAIDI", "ASAI")
+MOST_LATER = 200  # seconds to come at which something is switched
 
 
 def is_live(state: State) -> bool:
@@ -114,36 +28,127 @@ def is_live(state: State) -> bool:
     return state.period.first < int(time.time()) < state.period.end
 
 
-def open_outages(state: State, at: int) -> set[int]:
-    """The entries that cut off what is without supply at a second, and has it back nowhere in the book: such outages count
-    to the period's end."""
-    end = state.period.end
+async def outages_behind(office: Office, end: int) -> list[Outage]:
+    """The outages that last at a second, and those that begin later on."""
+    state = office.state
+    seconds = {entry.second for entry in state.entries if entry.is_kept}
+    seconds |= {bound for device in state.devices for bound in (device.since, device.until) if bound}
+    later = sorted(second for second in seconds if end < second < state.period.end)
+    if len(later) > MOST_LATER:
+        raise Away(f"switchings at {len(later)} seconds to come are entered already")
+    found: dict[tuple[str, int], Outage] = {}
+    for second in [end, *later] if end < state.period.end else []:
+        for row in (await office.supply(second)).outages:
+            found[row.section, row.since] = row
+    return list(found.values())
+
+
+def served(state: State, end: int) -> int:
+    """Customer-seconds in service up to a second."""
+    return sum(
+        state.served(node, state.period.first, end) for node in range(len(state.nodes)) if state.is_section(node)
+    )
+
+
+def indices_up_to(
+    state: State, indices: Json, end: int, behind: Iterable[Outage], marked: Container[int]
+) -> dict[str, list[str]]:
+    """The indices up to a second, as the annual table writes them: from the desk's, with the outages behind that second cut
+    there; those that begin on a marked day are left out."""
+    whole, counts = served(state, state.period.end), Counts()
+    if whole:
+        counts.sustained = whole_number(Fraction(indices["saifi"]) * whole / state.period.length)
+        counts.sustained_seconds = whole_number(Fraction(indices["saidi"]) * 60 * whole / state.period.length)
+    for row in behind:
+        for since, until, customers in state.within(state.node_numbers[row.section], row.since, row.until):
+            if state.period.day_of(since) not in marked:
+                count(counts, -customers, until - since)
+                count(counts, customers, min(until, end) - since)
+    found = indices_of(counts, served(state, end), end - state.period.first)
+    return {name: quotient_text(found[name]).split() for name in NAMES}
+
+
+def count(counts: Counts, customers: int, seconds: int) -> None:
+    if seconds > LONGEST_MOMENTARY:
+        counts.sustained += customers
+        counts.sustained_seconds += customers * seconds
+
+
+def whole_number(value: Fraction) -> int:
+    """A count that an index was made of."""
+    if value.denominator != 1:
+        raise Away("the book has changed meanwhile")
+    return value.numerator
+
+
+async def figures(office: Office, end: int) -> Json:
+    """The figures of the book up to a second."""
+    state, behind = office.state, await outages_behind(office, end)
+    totals, indices = await office.view("/totals"), await office.view("/indices")
+    marks: dict[str, Container[int]] = {"all": (), "unmarked": state.marks}
+    of_sets = {name: indices_up_to(state, indices[name], end, behind, marked) for name, marked in marks.items()}
     return {
-        run.cutter
-        for node in range(len(state.nodes))
-        if state.is_section(node) and (run := state.run_at(node, at)) is not None and run.until == end
+        "indices": {name: {each: of_sets[each][name] for each in marks} for name in NAMES},
+        **amounts_up_to(state, totals, end, behind),
     }
 
 
-def to_now_view(state: State) -> Json:
-    """What the year says up to now; nothing where its period is over or hasn't begun."""
+def amounts_up_to(state: State, totals: Json, end: int, behind: Sequence[Outage]) -> Json:
+    """Customer-seconds without supply before a second, by cause, feeder and day: the desk's, less those behind it."""
+    today = state.period.day_of(end)
+    less: dict[tuple[str, int], int] = defaultdict(int)
+    for row in behind:
+        node, since = state.node_numbers[row.section], max(row.since, end)
+        amount = state.served(node, since, row.until)
+        less["cause", row.cause] += amount
+        less["feeder", state.nodes[node][2]] += amount
+        if today < len(state.period.days):
+            less["day", today] += state.served(node, since, min(row.until, state.period.bounds[today + 1]))
+    rows = {
+        dim: [[key, amount - less[dim, key]] for key, amount in totals[dim] if amount > less[dim, key]]
+        for dim in ("cause", "feeder", "day")
+    }
+    days = [
+        [state.period.days[day].isoformat(), amount, day in state.marks] for day, amount in rows["day"] if day <= today
+    ]
+    return {
+        "W": sum(amount for _, amount in rows["cause"]),
+        "causes": rows["cause"],
+        "feeders": rows["feeder"],
+        "days": days,
+    }
+
+
+async def to_now_view(office: Office) -> Json:
+    """What the year says up to now; nothing where its period is over or hasn't begun, or why it can't be had."""
+    state = office.state
     if not is_live(state):
         return {"open": 0, "to_now": None}
     now = state.now()
-    shown = {"at": {"second": now, "text": state.period.zone.text_of(now)}, **figures(state, state.number, now)}
-    return {"open": len(open_outages(state, now)), "to_now": shown}
+    outages = (await office.supply(now)).outages
+    shown: Json = {"open": len({row.entry for row in outages if row.until == state.period.end})}
+    try:
+        shown["to_now"] = {"at": {"second": now, "text": state.period.zone.text_of(now)}, **await figures(office, now)}
+    except Away as away:
+        shown |= {"to_now": None, "why": str(away)}
+    return shown
 
 
-def marks_view(state: State, kind: str, day: int) -> Json:
-    """The unmarked SAIDI before a day is marked or unmarked, and after it: up to now where the period goes on, and of the
-    whole period as the book stands."""
-    marks = set(state.marks)
-    after = marks | {day} if kind == "mark" else marks - {day}
+async def marks_view(office: Office, kind: str, fields: Sequence[str]) -> Json | None:
+    """The unmarked SAIDI before a day is marked or unmarked, and after it, as the desk's copy says once it is done there: up to
+    now where the period goes on, and of the whole period as the book stands. None where there is no copy."""
+    state = office.state
+    try:
+        found = [indices["unmarked"] for indices in await office.copy.indices_around(kind, fields)]
+    except Away:
+        return None
+    day = {state.day_number(fields[0])}
+    marks = set(state.marks), set(state.marks) | day if kind == "mark" else set(state.marks) - day
 
-    def saidi(end: int, marked: set[int]) -> str:
-        served, length = served_up_to(state, end), end - state.period.first
-        return indices_of(counts_up_to(state, end, marked)["unmarked"], served, length)["SAIDI"][-1]
+    async def saidi(end: int) -> list[str]:
+        behind = await outages_behind(office, end)
+        shown = (indices_up_to(state, indices, end, behind, marked) for indices, marked in zip(found, marks))
+        return [each["SAIDI"][-1] for each in shown]
 
     ends = {"to_now": state.now()} if is_live(state) else {}
-    ends["whole"] = state.period.end
-    return {name: [saidi(end, marks), saidi(end, after)] for name, end in ends.items()}
+    return {name: await saidi(end) for name, end in {**ends, "whole": state.period.end}.items()}

@@ -11,17 +11,17 @@ def undo_of(state: State, command: Command) -> tuple[str, ...] | None:
     there is none: what joined the network or the customers stays, and a life or a service is ended instead."""
     kind, fields = command.kind, command.fields
     if kind == "switch":
-        return "withdraw", str(len(state.sheet.entries) + 1), "1"
+        return "withdraw", str(len(state.entries) + 1), "1"
     if kind in ("correct", "withdraw"):
-        entry = state.sheet.entries[int(fields[0]) - 1]
+        entry = state.entries[int(fields[0]) - 1]
         as_it_was = "close" if entry.closes else "open", str(entry.second), str(entry.cause), entry.crew
         if kind == "withdraw":
-            return "switch", state.sheet.devices[entry.device].name, *as_it_was
+            return "switch", state.devices[entry.device].name, *as_it_was
         return "correct", str(entry.number), str(entry.revision + 1), *as_it_was
     if kind in ("mark", "unmark"):
         return "unmark" if kind == "mark" else "mark", *fields
     if kind == "life":
-        device = state.sheet.devices[state.device_numbers[fields[0]]]
+        device = state.devices[state.device_numbers[fields[0]]]
         return "life", device.name, str(device.since), end_text(device.until)
     if kind == "revise":
         _, since, until = state.customers[int(fields[0])]

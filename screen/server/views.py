@@ -6,17 +6,14 @@ import re
 from collections.abc import Sequence
 from typing import Any
 
-from .commands import FIELDS, Plan, day_of, sections_of
-from .diagram import Layout, layout_of, normal_ways
-from .moments import double_hours, duration
-from .network import Supply
+from .answers import Outage, Supply
+from .commands import FIELDS
+from .diagram import layout_of, normal_ways, reached
+from .moments import double_hours
 from .reader import Command, Entry
-from .reasons import still_cut_off
-from .state import LATE_SECONDS, Run, State, run_at
-from .to_now import is_live, marks_view
+from .state import State
 
 Json = dict[str, Any]
-FUTURE_SECONDS = 60  # clocks of browsers and servers differ
 TIMES = ("second", "beginning", "end", "since", "until")  # fields of commands that are moments
 
 
@@ -45,14 +42,14 @@ def book_view(state: State) -> Json:
         "today": text(state, state.now())[:10],
         "causes": sorted(state.causes.items()),
         "nodes": [{"name": name, "kind": kind, "feeder": feeder} for name, kind, feeder in state.nodes],
-        "devices": [device_view(state, number) for number in range(len(state.sheet.devices))],
+        "devices": [device_view(state, number) for number in range(len(state.devices))],
         "crews": sorted(state.crews),
         "marks": {day_name(state, day): engineer for day, engineer in sorted(state.marks.items())},
     }
 
 
 def device_view(state: State, number: int) -> Json:
-    device = state.sheet.devices[number]
+    device = state.devices[number]
     return {
         "name": device.name,
         "a": device.a,
@@ -67,82 +64,81 @@ def reference_of(state: State, entry: int) -> str:
     return state.histories[entry][0].ref if state.histories.get(entry) else ""
 
 
-def outage_view(state: State, node: int, run: Run, at: int) -> Json:
+def outage_view(state: State, row: Outage) -> Json:
     """A section without supply: since when, until when as the book stands, and what cut it off."""
-    name, _, feeder = state.nodes[node]
     shown: Json = {
-        "section": name,
-        "feeder": feeder,
-        "customers": state.roll(node).at(at),
-        "since": moment(state, run.since),
-        "until": moment(state, run.until) if run.until < state.period.end else None,
-        "entry": run.cutter,
+        "section": row.section,
+        "feeder": state.feeder_of(row.section),
+        "customers": row.customers,
+        "since": moment(state, row.since),
+        "until": moment(state, row.until) if row.until < state.period.end else None,
+        "entry": row.entry,
     }
-    if run.cutter:
-        entry = state.sheet.entries[run.cutter - 1]
+    if row.entry:
+        entry = state.entries[row.entry - 1]
         shown |= {
-            "device": state.sheet.devices[entry.device].name,
-            "cause": entry.cause,
-            "cause_name": state.causes.get(entry.cause, ""),
+            "device": state.devices[entry.device].name,
+            "cause": row.cause,
+            "cause_name": state.causes.get(row.cause, ""),
             "crew": entry.crew,
-            "reference": reference_of(state, run.cutter),
+            "reference": reference_of(state, row.entry),
         }
     return shown
 
 
-def news_view(state: State, commands: Sequence[Command]) -> list[Json]:
+def news_view(state: State, commands: Sequence[Command], supply: Supply) -> list[Json]:
     """The outages that go on and were begun by switchings among some commands, the largest first."""
-    now, begun = state.now(), {state.changed[each.number]: each for each in commands if each.kind == "switch"}
-    found: dict[int, list[int]] = {}
-    for node, runs in state.runs.items():
-        if state.is_section(node) and (run := run_at(runs, now)) is not None and run.cutter in begun:
-            found.setdefault(run.cutter, []).append(node)
-    shown = [outage_news(state, begun[entry], entry, nodes, now) for entry, nodes in found.items()]
+    begun = {state.changed[each.number]: each for each in commands if each.kind == "switch"}
+    found: dict[int, list[Outage]] = {}
+    for row in supply.outages:
+        if row.entry in begun:
+            found.setdefault(row.entry, []).append(row)
+    shown = [outage_news(state, begun[entry], rows) for entry, rows in found.items()]
     return sorted(shown, key=lambda row: (-row["customers"], row["no"]))
 
 
-def outage_news(state: State, command: Command, number: int, nodes: Sequence[int], now: int) -> Json:
+def outage_news(state: State, command: Command, rows: Sequence[Outage]) -> Json:
     """A new outage: which device, who entered it, where, and how many customers it cut off."""
-    entry = state.sheet.entries[number - 1]
+    entry = state.entries[rows[0].entry - 1]
     return {
         "no": command.number,
         "ref": command.ref,
-        "entry": number,
-        "device": state.sheet.devices[entry.device].name,
+        "entry": entry.number,
+        "device": state.devices[entry.device].name,
         "crew": entry.crew,
         "since": moment(state, entry.second),
-        "feeders": sorted({state.nodes[node][2] for node in nodes}),
-        "sections": [state.nodes[node][0] for node in nodes],
-        "customers": sum(state.roll(node).at(now) for node in nodes),
+        "feeders": sorted({state.feeder_of(row.section) for row in rows}),
+        "sections": [row.section for row in rows],
+        "customers": sum(row.customers for row in rows),
     }
 
 
-def now_view(state: State, at: int) -> Json:
+def now_view(state: State, supply: Supply) -> Json:
     """Who is without supply at a second, and how all devices stand then."""
-    closed = state.sheet.closed_at(at)
-    outages = [
-        outage_view(state, node, run, at)
-        for node in range(len(state.nodes))
-        if state.is_section(node) and (run := state.run_at(node, at)) is not None
-    ]
+    at = supply.second
+    outages = [outage_view(state, row) for row in supply.outages]
     outages.sort(key=lambda row: (-row["since"]["second"], -row["customers"], row["section"]))
-    served = sum(state.roll(node).at(at) for node in range(len(state.nodes)) if state.is_section(node))
     return {
         "number": state.number,
         "at": moment(state, at),
         "outages": outages,
-        "customers_out": sum(row["customers"] for row in outages),
-        "customers_served": served,
-        **diagram_view(state, at, closed),
+        "customers_out": sum(row.customers for row in supply.outages),
+        "customers_served": sum(
+            state.customers_at(node, at) for node in range(len(state.nodes)) if state.is_section(node)
+        ),
+        **diagram_view(state, supply),
     }
 
 
-def diagram_view(state: State, at: int, closed: Sequence[bool]) -> Json:
-    """The one-line diagram: parts without supply first, the others by feeder."""
-    devices, nodes = state.sheet.devices, len(state.nodes)
-    supplied = Supply(nodes, devices, closed).supplied
+def diagram_view(state: State, supply: Supply) -> Json:
+    """The one-line diagram: parts without supply first, the others by feeder. Which sections have supply is the desk's word; a
+    bus has it where closed devices lead to it."""
+    at, devices, nodes = supply.second, state.devices, len(state.nodes)
+    closed = [supply.closed[each.name] and supply.alive[each.name] for each in devices]
+    out, ways = {row.section for row in supply.outages}, reached(nodes, devices, closed)
+    supplied = [name not in out if kind == 2 else way for (name, kind, _), way in zip(state.nodes, ways)]
     order = [(int(supplied[number]), feeder, number) for number, (_, _, feeder) in enumerate(state.nodes)]
-    layout: Layout = layout_of(nodes, devices, order)
+    layout = layout_of(nodes, devices, order)
     normal = normal_ways(nodes, devices, layout, closed)
     tree = set(layout.above.values())
     return {
@@ -155,7 +151,7 @@ def diagram_view(state: State, at: int, closed: Sequence[bool]) -> Json:
                 "row": layout.row[number],
                 "supplied": supplied[number],
                 "by_tie": supplied[number] and not normal[number],
-                "customers": state.roll(number).at(at) if kind == 2 else 0,
+                "customers": state.customers_at(number, at) if kind == 2 else 0,
             }
             for number, (name, kind, feeder) in enumerate(state.nodes)
         ],
@@ -166,7 +162,7 @@ def diagram_view(state: State, at: int, closed: Sequence[bool]) -> Json:
                 "b": device.b,
                 "closed": closed[device.number],
                 "normal": device.is_closed,
-                "alive": device.is_alive(at),
+                "alive": supply.alive[device.name],
                 "tree": device.number in tree,
             }
             for device in devices
@@ -182,7 +178,7 @@ def entry_view(state: State, entry: Entry, late: set[int] | None = None) -> Json
     return {
         "no": entry.number,
         "revision": entry.revision,
-        "device": state.sheet.devices[entry.device].name,
+        "device": state.devices[entry.device].name,
         "action": "close" if entry.closes else "open",
         "second": moment(state, entry.second),
         "cause": entry.cause,
@@ -240,40 +236,6 @@ def history_view(state: State, command: Command) -> Json:
     if command.kind in ("switch", "correct"):
         shown["second"] = text(state, int(command.fields[-3]))
     return shown
-
-
-# Forecasts.
-
-
-def forecast_view(state: State, planned: Plan, kind: str, *fields: str) -> Json:
-    """What a command would do as the book stands: computed here."""
-    ahead = 0 if planned.second is None else planned.second - state.now()
-    sections = sections_of(state, planned)
-    window = planned.change.window
-    for row in sections:
-        row |= {"since": moment(state, row["since"]), "until": moment(state, row["until"])}
-    return {
-        "number": state.number,
-        "sections": sections,
-        "from": moment(state, window.since) if window else None,
-        "to": moment(state, window.until) if window and window.until < state.period.end else None,
-        "moved": [list(move) for move in planned.moves],
-        "total": sum(amount for dim, _, amount in planned.moves if dim == "cause"),
-        "hints": [*planned.hints, *late_hints(kind, ahead)],
-        "reason": None if sections else still_cut_off(state, planned),
-        "is_live": is_live(state),
-        "unmarked": marks_view(state, kind, day_of(state, fields[0])) if kind in ("mark", "unmark") else None,
-        "future": duration(ahead) if ahead > FUTURE_SECONDS else None,
-        "words": command_words(state, kind, fields),
-    }
-
-
-def late_hints(kind: str, ahead: int) -> list[str]:
-    return (
-        [f"This is a late entry: it lies {duration(-ahead)} back."]
-        if kind == "switch" and -ahead > LATE_SECONDS
-        else []
-    )
 
 
 # Customers.

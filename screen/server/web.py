@@ -19,7 +19,7 @@ from urllib.parse import urlsplit
 
 from aiohttp import web
 
-from . import handover, moments, outage, search, shift, views, year
+from . import forecasts, handover, moments, outage, search, shift, views, year
 from .apart import Kept
 from .commands import FIELDS
 from .desk import Away
@@ -27,7 +27,7 @@ from .guard import BODY_BYTES
 from .names import NAME, folded, name_in
 from .office import Office
 from .reader import BookError
-from .state import Refused
+from .state import NotNow, Refused
 from .to_now import to_now_view
 
 STATIC = Path(__file__).resolve().parent.parent / "static"
@@ -131,7 +131,7 @@ async def check(request: web.Request, handler: Handler) -> web.StreamResponse:
         reply.headers.update(headers or {})
         return reply
     except Refused as refused:
-        return complaint(422, "refused here", str(refused))
+        return complaint(503 if isinstance(refused, NotNow) else 422, "refused here", str(refused))
     except Away as away:
         return answer(503, {"error": "away", "words": "The desk gives no answer.", "why": str(away)})
     except BookError as error:
@@ -297,8 +297,9 @@ async def second(request: web.Request) -> web.StreamResponse:
 
 
 async def now(request: web.Request) -> web.StreamResponse:
-    at = second_within(request)
-    return answer(200, views.now_view(office_of(request).state, at))
+    office = office_of(request)
+    supply = await office.supply(second_within(request))
+    return answer(200, views.now_view(office.state, supply))
 
 
 async def news(request: web.Request) -> web.StreamResponse:
@@ -307,12 +308,14 @@ async def news(request: web.Request) -> web.StreamResponse:
 
 
 async def sheet(request: web.Request) -> web.StreamResponse:
-    return answer(200, search.sheet_view(office_of(request).state, dict(request.query)))
+    office, wanted = office_of(request), dict(request.query)
+    past = await office.past() if search.wants_past(wanted) else {}
+    return answer(200, search.sheet_view(office.state, wanted, past))
 
 
 def entry_number(request: web.Request) -> int:
     number = int(request.match_info["no"])
-    if not 1 <= number <= len(office_of(request).state.sheet.entries):
+    if not 1 <= number <= len(office_of(request).state.entries):
         raise web.HTTPNotFound()
     return number
 
@@ -325,14 +328,13 @@ async def outage_of(request: web.Request) -> web.StreamResponse:
 async def entry(request: web.Request) -> web.StreamResponse:
     """An entry with its commands and the moves of each, in the desk's own words."""
     office, number = office_of(request), entry_number(request)
-    shown = views.entry_view(office.state, office.state.sheet.entries[number - 1])
+    shown = views.entry_view(office.state, office.state.entries[number - 1])
     shown["history"] = []
     is_away = False
     for command in office.state.histories[number]:
         text = None
         try:
-            status, body = (0, "") if is_away else await office.moves_of(command.number)
-            text = body if status == 200 else None
+            text = None if is_away else await office.moves_of(command.number)
         except Away:
             is_away = True  # the entry is shown all the same, and the desk isn't waited for again
         remark = office.journal.remark_of(command.ref)
@@ -351,20 +353,21 @@ async def position(request: web.Request) -> web.StreamResponse:
     state, name = office_of(request).state, request.query.get("device", "")
     if name not in state.device_numbers:
         raise web.HTTPNotFound()
-    device, at = state.sheet.devices[state.device_numbers[name]], second_within(request)
-    holds = state.sheet.holds(device, at + 1)
-    closed = holds.closes if holds else device.is_closed
-    return answer(200, {"closed": closed, "alive": device.is_alive(at), "cause": holds.cause if holds else 0})
+    supply = await office_of(request).supply(second_within(request))
+    holds = state.last_entry(state.devices[state.device_numbers[name]], supply.second)
+    shown = {"closed": supply.closed[name], "alive": supply.alive[name]}
+    return answer(200, {**shown, "cause": holds.cause if holds else 0})
 
 
 async def forecast(request: web.Request) -> web.StreamResponse:
     """What a command would do, or the steps of an outage."""
+    office = office_of(request)
     if steps := request.query.get("steps"):
-        return answer(200, outage.forecast(office_of(request).state, outage.steps_in(steps)))
+        return answer(200, await outage.forecast(office, outage.steps_in(steps)))
     kind = request.query.get("kind", "")
     names = FIELDS.get(kind, ())
     fields = [request.query.get(f"f{place}", "") for place in range(1, len(names) + 1)]
-    return answer(200, office_of(request).forecast(kind, fields))
+    return answer(200, await forecasts.forecast(office, kind, fields))
 
 
 async def command(request: web.Request) -> web.StreamResponse:
@@ -400,13 +403,18 @@ def shows(view: Callable[[Office, dict[str, str]], Any]) -> Handler:
     return show
 
 
+async def changes(request: web.Request) -> web.StreamResponse:
+    """What a shift hands over."""
+    return answer(200, await shift.shift_view(office_of(request), dict(request.query)))
+
+
 async def shift_page(request: web.Request) -> web.StreamResponse:
     """The same, as a page to be printed."""
     login, query = login_of(request) or "", dict(request.query)
     try:
-        status, shown, why = 200, shift.shift_view(office_of(request), query), ""
+        status, shown, why = 200, await shift.shift_view(office_of(request), query), ""
     except Refused as refused:  # the page is shown with the fields as they were typed
-        status, shown, why = 422, shift.shift_view(office_of(request), {}), str(refused)
+        status, shown, why = 422, await shift.shift_view(office_of(request), {}), str(refused)
     settings = settings_of(request)
     shown["book"] = settings.name
     data = handover.page(shown, query, name_of(request, login), why, settings.training)
@@ -424,19 +432,18 @@ async def whole(request: web.Request, name: str, make: Callable[[], Awaitable[An
 
 
 async def table_text(request: web.Request) -> str:
-    office, program = office_of(request), settings_of(request).program
+    office = office_of(request)
 
     async def make() -> str:
-        if office.desk is None:
-            return await office.tables.run(year.table_of_copy, program, office.book)
-        return (await office.desk.ask("GET", "/table")).body.decode()
+        answered = office.copy.ask("/table") if office.desk is None else office.desk.ask("GET", "/table")
+        return (await answered).body.decode()
 
     return str(await whole(request, "table", make))
 
 
 async def table(request: web.Request) -> web.StreamResponse:
     text = await table_text(request)
-    return answer(200, {**year.table_view(text), **to_now_view(office_of(request).state)})
+    return answer(200, {**year.table_view(text), **await to_now_view(office_of(request))})
 
 
 async def totals(request: web.Request) -> web.StreamResponse:
@@ -524,7 +531,7 @@ GETS: dict[str, Handler] = {
     "/api/forecast": forecast,
     "/api/customers": shows(lambda office, query: views.customers_view(office.state, query)),
     "/api/log": shows(shift.log_view),
-    "/api/changes": shows(shift.shift_view),
+    "/api/changes": changes,
     "/api/marks": shows(lambda office, _: shift.marks_view(office)),
     "/shift": shift_page,
     "/api/year": table,

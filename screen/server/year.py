@@ -44,11 +44,6 @@ def run(words: list[str]) -> bytes:
     return done.stdout
 
 
-def table_of_copy(program: str, book: Path) -> str:
-    with copy_of(book) as copy:
-        return run([program, "table", "--book", str(copy)]).decode("ascii")
-
-
 def moves_csv(program: str, book: Path) -> bytes:
     with copy_of(book) as copy:
         output = copy.with_name("moves.csv")

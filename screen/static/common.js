@@ -216,7 +216,7 @@ export function showDesk(shown) {
   say(state, words[shown.desk]);
   alarm("server", null);
   alarm("desk", shown.desk === "away" && `The desk is away: nothing can be saved now. What is shown is as of command ${shown.number}. The screen tries again each second. (${shown.why})`);
-  alarm("differs", shown.differs && `The screen's own count differs from the desk: ${shown.differs}. Believe the desk.`);
+  alarm("differs", shown.differs && `What is shown may be old: ${shown.differs}.`);
 }
 
 function askName(again = false) {

@@ -116,7 +116,7 @@ begin(async () => {
   main.append(
     lookOnly(),
     el("div", { class: "two" }, outage.form, el("div", { class: "card stays" }, outage.sender.element)),
-    foot(`What it would do is computed here; the answer to a command is ${source()}.`),
+    foot(`What it would do, and the answer to a command, are ${source()}; the steps of an outage are tried on a copy of it.`),
   );
   onCommands(() => { outage.steps.forgetBook(); reloadBook(); });
   await outage.fill(fromAddress(["device", "at", "entry", "close"]));

@@ -27,18 +27,9 @@ function amountRows(moved) {
   return rows;
 }
 
-/** What moves; with the desk's reply beside it, where they differ. */
-export function movesTable(moved, beside = null) {
-  if (!moved.length && !beside?.length) return el("p", {}, "Nothing changes.");
-  if (!beside) return table(["of", "#customer-seconds"], amountRows(moved), "Amounts that change");
-  const other = new Map(beside.map(([dim, key, amount]) => [`${dim} ${key}`, amount]));
-  const all = [...moved];
-  for (const [dim, key] of beside) if (!moved.some((move) => move[0] === dim && move[1] === key)) all.push([dim, key, null]);
-  const rows = all.map(([dim, key, amount]) => {
-    const there = other.get(`${dim} ${key}`);
-    return [names[dim](key), amount === null ? "nothing" : signed(amount), there === undefined ? "nothing" : signed(there), amount === there ? "equal" : "DIFFERS"];
-  });
-  return table(["of", "#computed here", "#the desk's reply", "compared"], rows, "Amounts that change, compared");
+/** What moves. */
+export function movesTable(moved) {
+  return moved.length ? table(["of", "#customer-seconds"], amountRows(moved), "Amounts that change") : el("p", {}, "Nothing changes.");
 }
 
 const isAtEnd = (until) => until.second > known.book.last.second;
@@ -166,16 +157,13 @@ function triesWords(replies) {
 export function replyParts(intent) {
   const { commands, replies, forecast } = intent;
   const moved = summed(replies.map((shown) => shown.reply.moved));
-  const differs = replies.some((shown) => shown.counted && !same(shown.reply.moved, shown.counted));
   const parts = [el("h2", {}, savedWords(replies))];
   const tries = triesWords(replies);
   if (tries) parts.push(el("p", { class: "warn" }, tries));
-  if (differs) parts.push(el("p", { class: "bad differs" }, "The desk's reply DIFFERS from what is computed here: believe the desk."));
-  else if (replies.every((shown, at) => same(shown.reply.moved, forecast.sent[at]))) parts.push(el("p", { class: "good equal" }, "As forecast."));
+  if (replies.every((shown, at) => same(shown.reply.moved, forecast.sent[at]))) parts.push(el("p", { class: "good equal" }, "As forecast."));
   else parts.push(otherwise(intent, moved));
   parts.push(el("p", { class: "lost" }, lostWords(total(moved))));
-  const amounts = differs ? movesTable(summed(replies.map((shown) => shown.counted ?? [])), moved) : movesTable(moved);
-  parts.push(el("details", { class: "amounts", open: differs }, el("summary", {}, "What it changed"), scrolling("What it changed", amounts)));
+  parts.push(el("details", { class: "amounts" }, el("summary", {}, "What it changed"), scrolling("What it changed", movesTable(moved))));
   const raw = replies.flatMap((shown, at) => [el("p", { class: "mono" }, commands[at].ref), el("p", { class: "mono reply" }, shown.text)]);
   parts.push(el("details", {}, el("summary", {}, several("The desk's repl", ["y as it came", "ies as they came"], replies)), raw));
   return parts;

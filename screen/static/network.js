@@ -118,7 +118,7 @@ function searchForm(search) {
 begin(async () => {
   const search = text({ "data-search": "yes", input: settled(() => { searched = search.value.trim().toUpperCase(); show(); }) });
   form = known.me.may_send ? commandForm() : null;
-  main.append(words, searchForm(search), customers, el("div", { class: "two" }, devices, nodes), lookOnly(), form ? form.element : "", foot("Devices, nodes and customers are those of the book; what a change would do is computed here."));
+  main.append(words, searchForm(search), customers, el("div", { class: "two" }, devices, nodes), lookOnly(), form ? form.element : "", foot("Devices, nodes and customers are those of the book; what a change would do is from the desk."));
   onCommands(async () => { await reloadBook(); show(); });
   show();
 });

@@ -1,6 +1,6 @@
 // Who is out at a second, and how the network stands.
 import { fromAddress, toAddress } from "./address.js";
-import { begin, el, foot, get, known, moment, momentWords, number, onCommands, painted, settled } from "./common.js";
+import { begin, el, foot, get, known, moment, momentWords, number, onCommands, painted, settled, source } from "./common.js";
 import { MomentField } from "./moments.js";
 import { Diagram } from "./diagram.js";
 import { Outages } from "./outages.js";
@@ -91,7 +91,7 @@ function controls() {
 begin(async () => {
   outages = new Outages();
   const shownControls = controls();
-  main.append(tiles, trouble, shownControls, el("div", { class: "side" }, outages.element, diagram.element), foot("Who is without supply is computed here, from the book's entries."));
+  main.append(tiles, trouble, shownControls, el("div", { class: "side" }, outages.element, diagram.element), foot(`Who is without supply is ${source()}.`));
   onCommands(() => show());
   if (at) {
     await field.set(at);

@@ -1,10 +1,12 @@
-// Commands on their way: what they would do, computed here; then, each under a reference of its own, the desk's answers. One
+// Commands on their way: what they would do, by the desk; then, each under a reference of its own, the desk's answers. One
 // command, or the steps of an outage, which go as one list.
 import { el, get, known, momentWords, newReference, onCommands, own, settled } from "./common.js";
 import { entryLinks, forecastParts, replyParts, same } from "./forecast.js";
 import { offerUndo } from "./undo.js";
 import { adopt, forget, keep, look, onAnswered, refOf, release, sendRest } from "./unanswered.js";
 
+const NOT_NOW = 503; // asked again after some seconds
+const AGAIN_SECONDS = 5;
 const FOLLOW_SECONDS = 20; // between two forecasts of a switching whose time is the one that is now
 
 const SHOWN_FIRST = "Not sent: what it would do is shown first. Look at it, and send then.";
@@ -117,7 +119,8 @@ export class Sender {
     } catch (trouble) {
       if (count !== this.count) return;
       this.shown = null;
-      this.forecast.replaceChildren(el("p", { class: "bad" }, `Not possible: ${trouble.message}.`));
+      this.forecast.replaceChildren(el("p", { class: "bad" }, `Not possible: ${trouble.message.replace(/\.$/, "")}.`));
+      if (trouble.status === NOT_NOW) setTimeout(() => count === this.count && this.look(), AGAIN_SECONDS * 1000);
     }
     this.enable();
   }

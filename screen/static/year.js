@@ -106,14 +106,14 @@ async function show() {
   renew(
     figures,
     openBanner(shown),
-    shown.to_now ? toNowPart(shown.to_now) : "",
+    shown.to_now ? toNowPart(shown.to_now) : shown.why ? el("p", { class: "warn" }, `Figures up to now can't be had: ${shown.why}.`) : "",
     wholePart(shown),
     el("div", { class: "two" },
       el("section", {}, el("h2", {}, shown.to_now ? "Indices, to the period's end" : "Indices"), table(["index", "#all", "#without major event days"], indices, "Indices"), el("p", { class: "note" }, note)),
       amountParts(shown),
     ),
     daysPart(shown),
-    foot(`Figures of the whole period are ${source()}${shown.to_now ? "; those up to now are computed here" : ""}.`),
+    foot(`Figures of the whole period are ${source()}${shown.to_now ? "; those up to now are these, less what outages count after that time" : ""}.`),
   );
 }
 

@@ -28,6 +28,7 @@ FORTNIGHT_FILES = ROOT / "examples/fortnight"
 DEPLOY = ROOT / "deploy"
 PROGRAM = Path(os.environ.get("OUTAGEBOOK", ROOT / "crates/outagebook/out/outagebook"))
 sys.path.insert(0, str(SCREEN))
+
 FORTNIGHT = ("2025-03-24", "14", "CET-1CEST,M3.5.0,M10.5.0/3")
 
 
@@ -252,9 +253,12 @@ class Screen:
         return found
 
     def desk_process(self) -> int:
-        """The process of the desk that this screen started."""
+        """The process of the desk that this screen started over the book, and not over a copy of it."""
         children = Path(f"/proc/{self.process.pid}/task/{self.process.pid}/children").read_text().split()
-        return int(children[0])
+        book = str(self.book.resolve()).encode()
+        return next(
+            int(child) for child in children if book in Path(f"/proc/{child}/cmdline").read_bytes().split(b"\0")
+        )
 
 
 class Case(unittest.TestCase):

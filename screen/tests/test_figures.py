@@ -1,93 +1,121 @@
-"""What is computed here of a book whose period goes on: figures up to now, what a mark moves, why a closing gives nothing."""
+"""What the screen makes of the desk's figures where the period goes on: figures up to a second, what a mark moves, why a closing
+gives nothing. By hand, and against a desk whose book ends there."""
 
+import random
 import unittest
+import unittest.mock
 from fractions import Fraction
+from pathlib import Path
+from typing import Any
 
+import offices
 import support
-from server import to_now, year
-from server.commands import accept, plan
-from server.office import new_state
-from server.reader import Command
-from server.reasons import still_cut_off
-from server.state import State
+from server import forecasts, to_now, year
+
+FIRST, END = 1_742_770_800, 1_743_976_800  # of the sample fortnight
 
 
-def switch(state: State, device: str, position: str, second: int, cause: str = "1") -> None:
-    """Takes a switching as the next command."""
-    number = state.number + 1
-    accept(state, Command(number, f"T-{number}", "switch", (device, position, str(second), cause, "ANNA")))
-
-
-class AtTheEnd(unittest.TestCase):
-    def test_at_the_periods_end_they_are_those_of_the_annual_table(self) -> None:
-        state = new_state(support.fortnight("to-now"))
-        found = to_now.figures(state, state.number, state.period.end)
-        table = year.table_view((support.FORTNIGHT_FILES / "fortnight.table.txt").read_text())
-        for name in ("SAIFI", "SAIDI", "CAIDI", "ASAI"):
-            self.assertEqual(found["indices"][name], table["indices"][name])
-        self.assertEqual(str(found["W"]), table["totals"]["W"])
-        self.assertEqual(
-            {name: str(found["totals"][name]) for name in "PS"}, {name: table["totals"][name] for name in "PS"}
-        )
-        causes = {int(row[0]): int(row[-1]) for row in table["causes"]}
-        self.assertEqual(dict(found["causes"]), {code: amount for code, amount in causes.items() if amount})
-        self.assertEqual(
-            dict(found["feeders"]), {int(row[0]): int(row[1]) for row in table["feeders"] if row[1] != "0"}
-        )
-        days = [[row[0], int(row[1]), row[-1] == "marked"] for row in table["days"] if row[1] != "0"]
-        self.assertEqual(found["days"], days)
-
-
-class UpToASecond(unittest.TestCase):
+class Figures(offices.Case):
     """One customer at QUAY and two at MILL, behind LBS-1."""
 
-    def setUp(self) -> None:
-        self.state = new_state(support.small(self._testMethodName))
-        self.begin = self.state.period.bounds[2]
+    async def asyncSetUp(self) -> None:
+        await self.begin(support.small(self._testMethodName))
+        self.start = self.state.period.bounds[2]
 
-    def figures(self, end: int) -> dict[str, list[str]]:
-        shown = to_now.figures(self.state, self.state.number, end)
+    async def switch(self, device: str, position: str, at: int) -> None:
+        self.assertIsNotNone(await self.accept("switch", device, position, str(self.start + at), "1", "ANNA"))
+
+    async def figures(self, at: int) -> dict[str, list[str]]:
+        shown = await to_now.figures(self.office, self.start + at)
         return {name: sets["all"] for name, sets in shown["indices"].items()} | {"W": [str(shown["W"])]}
 
-    def test_an_outage_counts_up_to_now(self) -> None:
+    async def forecast(self, device: str, position: str, at: int) -> dict[str, Any]:
+        fields = [device, position, str(self.start + at), "1", "ANNA"]
+        return await forecasts.forecast(self.office, "switch", fields)
+
+    async def test_an_outage_counts_up_to_now(self) -> None:
         """Two customers for 400 seconds, and again since 100: by hand, 800 / (60 x 3) minutes for each customer served."""
         for at, position in ((0, "open"), (400, "close"), (900, "open")):
-            switch(self.state, "LBS-1", position, self.begin + at)
-        end = self.begin + 1_000
-        served = 3 * (end - self.state.period.first)
-        found = self.figures(end)
+            await self.switch("LBS-1", position, at)
+        served = 3 * (self.start + 1_000 - self.state.period.first)
+        found = await self.figures(1_000)
         self.assertEqual(found.pop("ASAI"), [str(Fraction(served - 800, served)), "0.998"])
         minutes = {"SAIDI": ["40/9", "4.444"], "CAIDI": ["20/3", "6.667"]}
         self.assertEqual(found, {**minutes, "SAIFI": ["2/3", "0.667"], "W": ["1000"]})
-        self.assertEqual(self.figures(self.begin + 1_200)["SAIFI"], ["2/3", "0.667"])  # 300 seconds aren't sustained
-        self.assertEqual(self.figures(self.begin + 1_201)["SAIFI"], ["4/3", "1.333"])
+        self.assertEqual((await self.figures(1_200))["SAIFI"], ["2/3", "0.667"])  # 300 seconds aren't sustained
+        self.assertEqual((await self.figures(1_201))["SAIFI"], ["4/3", "1.333"])
 
-    def test_open_outages_are_counted_by_what_cut_them_off(self) -> None:
-        at = self.begin + 60
-        self.assertEqual(to_now.open_outages(self.state, at), set())
-        switch(self.state, "LBS-1", "open", self.begin)
-        switch(self.state, "CB-1", "open", self.begin + 10)
-        self.assertEqual(to_now.open_outages(self.state, at), {1, 2})
-        switch(self.state, "CB-1", "close", self.begin + 600)  # told already: it doesn't count to the period's end
-        self.assertEqual(to_now.open_outages(self.state, at), {1})
+    async def test_what_is_planned_counts_for_nothing(self) -> None:
+        """Outages that begin later, one of them within an hour, and lives that turn: figures of now leave them out."""
+        await self.switch("LBS-1", "open", 0)
+        before = await self.figures(1_000)
+        for device, position, at in (("LBS-1", "close", 2_000), ("CB-1", "open", 3_000), ("CB-1", "close", 9_000)):
+            await self.switch(device, position, at)
+        await self.accept("life", "CB-1", "0", str(self.start + 200_000))
+        await self.accept("connect", "4", "MILL", str(self.start + 3_500), "-")
+        self.assertEqual(await self.figures(1_000), before)
 
-    def test_a_mark_moves_the_unmarked_saidi(self) -> None:
-        switch(self.state, "LBS-1", "open", self.begin)
-        switch(self.state, "LBS-1", "close", self.begin + 400)
-        found = to_now.marks_view(self.state, "mark", 2)
-        self.assertEqual(found, {"to_now": ["4.444", "0.000"], "whole": ["4.444", "0.000"]})
+    async def test_open_outages_are_counted_by_what_cut_them_off(self) -> None:
+        async def count() -> int:
+            with unittest.mock.patch("time.time", return_value=self.start + 60.0):
+                found: int = (await to_now.to_now_view(self.office))["open"]
+                return found
 
-    def test_what_keeps_a_closed_device_without_supply(self) -> None:
-        switch(self.state, "LBS-1", "open", self.begin)
-        switch(self.state, "CB-1", "open", self.begin + 10)
-        closing = ("LBS-1", "close", str(self.begin + 20), "1", "ANNA")
-        words = still_cut_off(self.state, plan(self.state, "switch", closing))
-        assert words is not None
+        self.assertEqual(await count(), 0)
+        await self.switch("LBS-1", "open", 0)
+        await self.switch("CB-1", "open", 10)
+        self.assertEqual(await count(), 2)
+        await self.switch("CB-1", "close", 600)  # told already: it doesn't count to the period's end
+        self.assertEqual(await count(), 1)
+
+    async def test_a_mark_moves_the_unmarked_saidi(self) -> None:
+        await self.switch("LBS-1", "open", 0)
+        await self.switch("LBS-1", "close", 400)
+        day = self.state.period.days[2].isoformat()
+        found = await forecasts.forecast(self.office, "mark", [day, "ANNA"])
+        self.assertEqual(found["unmarked"], {"to_now": ["4.444", "0.000"], "whole": ["4.444", "0.000"]})
+        self.assertEqual(found["moved"], [])
+        self.assertEqual(await self.copy.supply(self.start), await self.office.supply(self.start))
+
+    async def test_what_keeps_a_closed_device_without_supply(self) -> None:
+        await self.switch("LBS-1", "open", 0)
+        await self.switch("CB-1", "open", 10)
+        words = (await self.forecast("LBS-1", "close", 20))["reason"]
         self.assertRegex(words, r"^Still cut off: above it CB-1 is open since \d{4}-\d\d-\d\d 0[0-9]:00:10\.$")
-        upper = ("CB-1", "close", str(self.begin + 20), "1", "ANNA")
-        self.assertIsNone(still_cut_off(self.state, plan(self.state, "switch", upper)))
-        opening = ("LBS-1", "open", str(self.begin + 20), "1", "ANNA")
-        self.assertIsNone(still_cut_off(self.state, plan(self.state, "switch", opening)))
+        self.assertIsNone((await self.forecast("CB-1", "close", 20))["reason"])
+        self.assertIsNone((await self.forecast("LBS-1", "open", 20))["reason"])
+
+
+class Shorter(offices.Case):
+    async def test_they_are_those_of_a_book_that_ends_there(self) -> None:
+        """Random switchings in the sample's network: a book of the first days alone says what the longer one says up to them."""
+        chance, rows = random.Random(8), (support.FORTNIGHT_FILES / "fortnight.csv").read_text().splitlines()
+        said = [row for row in rows if row.split(",")[0] not in ("switch", "correct", "withdraw")]
+        devices = [row.split(",")[2] for row in said if row.startswith("device,")]
+        seconds = [chance.randrange(FIRST, END) for _ in range(150)]
+        switched = {
+            f"switch,R-{number},{chance.choice(devices)},{chance.choice(['open', 'close'])},{second},5,CREW-1,": second
+            for number, second in enumerate(seconds)
+        }
+        await self.begin(book_of("longer", [*said, *switched], 14))
+        for days in (3, 7, 14):
+            end = self.state.period.bounds[days]
+            kept = [row for row in said if days > 6 or not row.startswith("mark")]
+            kept += [row for row, second in switched.items() if second < end]
+            table = year.table_view(support.run("table", "--book", book_of(f"shorter-{days}", kept, days)))
+            found = await to_now.figures(self.office, end)
+            for name in ("SAIFI", "SAIDI", "CAIDI", "ASAI"):
+                self.assertEqual(found["indices"][name], table["indices"][name], (days, name))
+            self.assertEqual(str(found["W"]), table["totals"]["W"])
+            self.assertEqual([row[1] for row in found["days"]], [int(row[1]) for row in table["days"] if row[1] != "0"])
+
+
+def book_of(name: str, rows: list[str], days: int) -> Path:
+    """A book of the sample's first days."""
+    text = support.folder() / f"{name}.csv"
+    text.write_text("".join(f"{row}\n" for row in rows))
+    first, _, zone = support.FORTNIGHT
+    return support.new_book(name, text, (first, str(days), zone))
 
 
 if __name__ == "__main__":

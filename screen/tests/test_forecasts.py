@@ -1,39 +1,35 @@
-"""The screen's own count against the desk: each command's forecast is what the desk moved, and the state that is kept in
-step is the one that is read anew."""
+"""Forecasts against the desk: what was forecast is what it moved; the rows that are kept in step are those that are read anew,
+and the copy that follows the desk answers as it does."""
 
+import os
 import random
 import unittest
 import unittest.mock
 from collections.abc import Callable
-from pathlib import Path
+from typing import Any
 
+import offices
 import support
-from server import commands, outage, reader, state
+from server import forecasts, outage, reader, state
+from server.office import new_state
 
-COMMANDS = 300
+COMMANDS = int(os.environ.get("SCREEN_FORECASTS", "300"))
 FIRST, END = 1_742_770_800, 1_743_976_800
+Step = list[str]
 
 
-def read(book: Path) -> state.State:
-    return state.State(reader.read_rows(book))
+def listed(moves: reader.Moves | None) -> list[list[Any]] | None:
+    return None if moves is None else [list(move) for move in moves]
 
 
-def sorted_amounts(known: state.State) -> dict[tuple[str, int], int]:
-    return {key: amount for key, amount in known.amounts().items() if amount}
-
-
-class Office:
-    """Random commands to a desk, each forecast before it is sent."""
-
-    def __init__(self, case: unittest.TestCase, desk: support.Desk, seed: int):
-        self.case, self.desk, self.random = case, desk, random.Random(seed)
-        self.known = read(desk.book)
-        self.refused = self.moved = 0
+class Forecasts(offices.Case):
+    """Random commands, each forecast before it is sent."""
 
     def moment(self) -> int:
         """A second of the period, often one at which something happens."""
         if self.random.random() < 0.3:
-            return max(FIRST, min(END - 1, self.random.choice(self.known.sheet.order)[0] + self.random.randint(-1, 1)))
+            second = self.random.choice(self.state.entries).second + self.random.randint(-1, 1)
+            return max(FIRST, min(END - 1, second))
         if self.random.random() < 0.1:
             return self.random.choice([FIRST, END - 1])
         return self.random.randrange(FIRST, END)
@@ -44,7 +40,7 @@ class Office:
         return [str(since), until]
 
     def any_entry(self) -> tuple[str, str]:
-        entry = self.random.choice(self.known.sheet.entries)
+        entry = self.random.choice(self.state.entries)
         return str(entry.number), str(entry.revision)
 
     def command(self, number: int) -> tuple[str, list[str]]:
@@ -52,114 +48,141 @@ class Office:
             ["switch", "correct", "withdraw", "life", "device", "section", "connect", "revise"],
             [10, 6, 3, 4, 2, 1, 2, 2],
         )[0]
-        device = self.random.choice(self.known.sheet.devices).name
+        device = self.random.choice(self.state.devices).name
         action, cause = self.random.choice(["open", "close"]), str(self.random.randint(1, 8))
+        ends = [node[0] for node in self.random.sample(self.state.nodes, 2)]
+        sections = [name for name, kind, _ in self.state.nodes if kind == 2]
         makers: dict[str, Callable[[], list[str]]] = {
             "switch": lambda: [device, action, str(self.moment()), cause, "CREW-1"],
             "correct": lambda: [*self.any_entry(), action, str(self.moment()), cause, "CREW-2"],
             "withdraw": lambda: [*self.any_entry()],
             "life": lambda: [device, *self.life()],
-            "device": lambda: [
-                f"D-{number}",
-                *[node[0] for node in self.random.sample(self.known.nodes, 2)],
-                self.random.choice(["open", "closed"]),
-                *self.life(),
-            ],
+            "device": lambda: [f"D-{number}", *ends, self.random.choice(["open", "closed"]), *self.life()],
             "section": lambda: [f"S-{number}", str(self.random.randint(1, 3))],
-            "connect": lambda: [
-                str(number + 1),
-                self.random.choice([name for name, kind, _ in self.known.nodes if kind == 2]),
-                *self.life(),
-            ],
-            "revise": lambda: [str(self.random.choice(list(self.known.customers))), *self.life()],
+            "connect": lambda: [str(number + 1), self.random.choice(sections), *self.life()],
+            "revise": lambda: [str(self.random.choice(list(self.state.customers))), *self.life()],
         }
         return kind, makers[kind]()
 
-    def act(self, number: int) -> None:
-        kind, fields = self.command(number)
+    async def forecast(self, kind: str, fields: Step) -> dict[str, Any] | None:
         try:
-            planned = commands.plan(self.known, kind, fields)
+            return await forecasts.forecast(self.office, kind, fields)
         except state.Refused:
-            planned = None
-        body = {"kind": kind, "ref": f"TRY-{number}"}
-        body |= {f"f{place}": "" if text == "-" else text for place, text in enumerate(fields, 1)}
-        status, reply = self.desk.post(body)
-        self.case.assertEqual(status == 200, planned is not None, (kind, fields, reply))
-        if planned is None:
-            self.refused += 1
-            return
-        self.case.assertEqual(reply["moved"], [list(move) for move in planned.moves], (number, kind, fields))
-        self.moved += bool(planned.moves)
-        commands.accept(self.known, reader.Command(reply["no"], f"TRY-{number}", kind, tuple(fields)))
+            return None
 
-    def act_on_steps(self, number: int) -> int:
-        """Some switchings as one list, sent in the order that the forecast tells: how many there were."""
-        devices = [each.name for each in self.known.sheet.devices[:5]]
-        steps = [
-            [
-                "switch",
-                self.random.choice(devices),
-                self.random.choice(["open", "close"]),
-                str(self.moment()),
-                "5",
-                "CREW-3",
-            ]
-            for _ in range(self.random.randint(2, 6))
-        ]
-        shown = outage.forecast(self.known, steps)
-        self.case.assertEqual(sorted(shown["order"]), list(range(len(steps))))
-        before = self.known.amounts()
-        for place, (at, moved) in enumerate(zip(shown["order"], shown["sent"])):
-            kind, *fields = steps[at]
-            body = {
-                "kind": kind,
-                "ref": f"STEP-{number}-{place}",
-                **{f"f{each}": text for each, text in enumerate(fields, 1)},
-            }
-            status, reply = self.desk.post(body)
-            self.case.assertEqual((status, reply.get("moved")), (200, moved), (steps, shown["order"]))
-            commands.accept(self.known, reader.Command(reply["no"], body["ref"], kind, tuple(fields)))
-        after = self.known.amounts()
-        moved = {key: after.get(key, 0) - before.get(key, 0) for key in {*before, *after}}
-        self.case.assertEqual(
-            {(dim, key): amount for dim, key, amount in shown["moved"]},
-            {key: amount for key, amount in moved.items() if amount},
+    async def act(self, number: int) -> bool:
+        """Forecasts a command and sends it: whether it moved anything."""
+        kind, fields = self.command(number)
+        shown = await self.forecast(kind, fields)
+        moves = await self.accept(kind, *fields)
+        self.assertEqual(None if shown is None else shown["moved"], listed(moves), (number, kind, fields))
+        return bool(moves)
+
+    def steps(self) -> list[Step]:
+        """Some switchings, as the steps of an outage."""
+        names = [each.name for each in self.state.devices[:5]]
+        made = (
+            [self.random.choice(names), self.random.choice(["open", "close"]), str(self.moment())] for _ in range(6)
         )
-        self.case.assertEqual(sum(step["total"] for step in shown["steps"]), shown["total"])
-        self.case.assertEqual(sum(row["customer_seconds"] for row in shown["sections"]), shown["total"])
-        return len(steps)
+        return [["switch", *step, "5", "CREW-3"] for step in made][: self.random.randint(2, 6)]
 
+    async def act_on_steps(self, steps: list[Step]) -> None:
+        """Forecasts some steps as one list, and sends them in the order that it tells: each moves what was forecast."""
+        shown, before = await outage.forecast(self.office, steps), self.desk.get("/totals")
+        self.assertEqual(sorted(shown["order"]), list(range(len(steps))))
+        for place, moved in zip(shown["order"], shown["sent"], strict=True):
+            moves = await self.accept(*steps[place])
+            self.assertEqual(listed(moves), moved, (steps, shown["order"]))
+        after = self.desk.get("/totals")
+        for dim in ("cause", "feeder", "day"):
+            found = {key: amount for of, key, amount in shown["moved"] if of == dim}
+            was, now = dict(before[dim]), dict(after[dim])
+            moved = {key: now.get(key, 0) - was.get(key, 0) for key in was.keys() | now.keys()}
+            self.assertEqual(found, {key: amount for key, amount in moved.items() if amount})
+        self.assertEqual(sum(step["total"] for step in shown["steps"]), shown["total"])
 
-class Forecasts(support.Case):
-    def test_random_commands_with_lives(self) -> None:
+    async def check_copy(self) -> None:
+        """The copy answers as the desk, also of entries that were made after others were tried in it."""
+        for second in (self.moment(), self.moment(), END - 1):
+            self.assertEqual(await self.copy.supply(second), await self.office.supply(second))
+
+    async def check_past(self) -> None:
+        """Outages as the copy followed them are those of the rows, swept anew."""
+        rows = self.state.nodes, self.state.devices, self.state.entries
+        self.assertEqual(await self.office.past(), reader.past_outages(self.state.period, *rows))
+
+    def check_rows(self) -> None:
+        anew = new_state(self.desk.book)
+        for name in ("number", "causes", "nodes", "devices", "entries", "customers", "marks", "histories", "crews"):
+            self.assertEqual(getattr(self.state, name), getattr(anew, name), name)
+
+    async def test_random_commands_with_lives(self) -> None:
         for seed in (1, 2, 3):
-            desk = self.desk()
-            office = Office(self, desk, seed)
+            self.random = random.Random(seed)
+            await self.begin(support.fortnight(f"random-{seed}"))
+            moved = 0
             for number in range(COMMANDS):
-                office.act(number)
-            self.assertGreater(office.moved, COMMANDS // 5)
-            anew = read(desk.book)
-            self.assertEqual(
-                {node: runs for node, runs in office.known.runs.items() if runs},
-                {node: runs for node, runs in anew.runs.items() if runs},
-            )
-            self.assertEqual(sorted_amounts(office.known), sorted_amounts(anew))
-            totals = desk.get("/totals")
-            for dim in ("cause", "feeder", "day"):
-                found = [[key, amount] for (of, key), amount in sorted(sorted_amounts(anew).items()) if of == dim]
-                self.assertEqual(found, totals[dim])
+                moved += await self.act(number)
+                if number % 50 == 0:
+                    await self.check_copy()
+                    await self.check_past()
+            self.assertGreater(moved, COMMANDS // 5)
+            await self.check_past()
+            self.check_rows()
 
-    def test_steps_of_outages(self) -> None:
-        """Lists of switchings: each step moves what was forecast, all together what the forecast says of the whole."""
-        desk = support.Desk(support.fortnight("steps"))
-        self.addCleanup(desk.kill)
-        office = Office(self, desk, 4)
-        self.assertGreater(sum(office.act_on_steps(number) for number in range(40)), 100)
-        self.assertEqual(sorted_amounts(office.known), sorted_amounts(read(desk.book)))
+    async def test_steps_of_outages(self) -> None:
+        self.random = random.Random(4)
+        await self.begin(support.fortnight("steps"))
+        for _ in range(COMMANDS // 8):
+            await self.act_on_steps(self.steps())
+            await self.check_copy()
+            await self.check_past()
+        self.check_rows()
 
-    def test_the_order_in_which_steps_are_sent(self) -> None:
+    async def test_an_outage_is_taken_back(self) -> None:
+        """Withdrawals one after the other, and back to the copy's next life: what they move is what was forecast."""
+        await self.begin(support.fortnight("back"))
+        self.random = random.Random(5)
+        for step in (steps := self.steps()):
+            await self.accept(*step)
+        last = len(self.state.entries)
+        await self.act_on_steps([["withdraw", str(last - place), "1"] for place in range(len(steps))])
+        await self.check_copy()
+        await self.check_past()
+
+    async def test_a_copy_that_fell_behind(self) -> None:
+        """After more commands than it follows there is another copy."""
+        self.random = random.Random(7)
+        with unittest.mock.patch("server.deskcopy.MOST_LATER", 5):
+            await self.begin(support.fortnight("behind"))
+            await self.check_copy()
+            for step in [*self.steps(), *self.steps(), *self.steps()]:
+                await self.accept(*step)
+            await self.check_copy()
+
+    async def test_what_a_step_is_refused_for(self) -> None:
+        """The step is named, and those before it are taken back."""
+        await self.begin(support.fortnight("refused"))
+        opened = ["switch", "CB-1", "open", str(FIRST + 60), "5", "CREW-3"]
+        with self.assertRaisesRegex(state.Refused, "step 2: the book knows no device NOSUCH"):
+            await outage.forecast(self.office, [opened, [*opened[:1], "NOSUCH", *opened[2:]]])
+        self.random = random.Random(6)
+        await self.check_copy()
+
+    async def test_no_copy_is_told(self) -> None:
+        """Without a copy nothing is guessed: the steps have no forecast, and it is said why."""
+        await self.begin(support.fortnight("no-copy"))
+        self.copy.original = support.folder() / "none.db"
+        self.copy.throw_away()
+        step = ["switch", "CB-1", "open", str(FIRST + 60), "5", "CREW-3"]
+        with unittest.mock.patch("server.deskcopy.READY_SECONDS", 1.0):
+            with self.assertRaisesRegex(state.NotNow, "since they can't be tried: .*none.db"):
+                await outage.forecast(self.office, [step, step])
+        self.assertIsNotNone(await self.forecast("switch", step[1:]))
+
+    async def test_the_order_in_which_steps_are_sent(self) -> None:
         """Returns first where all is over, unless two steps have one second; else by time."""
-        known = read(support.fortnight("order"))
+        await self.begin(support.fortnight("order"))
         steps = (("TIE-1", "open"), ("CB-1", "open"), ("TIE-1", "close"), ("CB-1", "close"))
         for now, seconds, order in (
             (END, (40, 10, 20, 30), [3, 0, 1, 2]),
@@ -168,9 +191,21 @@ class Forecasts(support.Case):
         ):
             sent = [["switch", *step, str(FIRST + second), "5", "CREW-3"] for step, second in zip(steps, seconds)]
             with unittest.mock.patch("time.time", return_value=float(now)):
-                shown = outage.forecast(known, sent)
+                shown = await outage.forecast(self.office, sent)
             self.assertEqual(shown["order"], order)
             self.assertEqual([step["place"] for step in shown["steps"]], [1, 2, 3, 0])
+
+
+class Alone(unittest.TestCase):
+    """What needs no desk."""
+
+    def test_the_sample_fortnight_from_nothing(self) -> None:
+        """The rows that its commands make one by one are those of the book."""
+        book = support.fortnight("from-nothing")
+        known = new_state(support.new_book("empty"))
+        for command, _ in reader.read_later(book, 0):
+            known.take(command)
+        self.assertEqual(vars(known), vars(new_state(book)) | {"period": known.period, "services": known.services})
 
     def test_what_is_no_list_of_steps(self) -> None:
         for wrong in (
@@ -184,14 +219,6 @@ class Forecasts(support.Case):
         ):
             with self.assertRaises(state.Refused, msg=wrong[:40]):
                 outage.steps_in(wrong)
-
-    def test_sample_fortnight_from_nothing(self) -> None:
-        """Each command of the sample fortnight in its turn moves what the file says that it moved."""
-        book = support.fortnight("from-nothing")
-        known = read(support.new_book("empty"))
-        for command, moves in reader.read_later(book, 0):
-            self.assertEqual(commands.accept(known, command), moves, command)
-        self.assertEqual(sorted_amounts(known), sorted_amounts(read(book)))
 
 
 if __name__ == "__main__":

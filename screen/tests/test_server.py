@@ -52,7 +52,7 @@ class Commands(support.Case):
         first = screen.post({**LIGHTHOUSE, "ref": "SCR-ANNA-1"})
         self.assertEqual(first[0], 200)
         self.assertEqual(first[1]["reply"]["moved"], forecast["moved"])
-        self.assertEqual((first[1]["equal"], first[1]["again"]), (True, False))
+        self.assertFalse(first[1]["again"])
         again = screen.post({**LIGHTHOUSE, "ref": "SCR-ANNA-1"})
         self.assertEqual((again[0], again[1]["again"], again[1]["text"]), (200, True, first[1]["text"]))
         self.assertEqual(screen.number(), 103)
@@ -102,10 +102,10 @@ class Commands(support.Case):
         screen = self.screen()
         screen.log_in("ANNA")
         spelled = {**LIGHTHOUSE, "f3": "2025-04-06T23:52:00+02:00", "f4": "05"}
-        self.assertEqual(screen.post({**spelled, "ref": "SCR-ANNA-1"})[1]["equal"], True)
+        self.assertEqual(screen.post({**spelled, "ref": "SCR-ANNA-1"})[0], 200)
         self.assertEqual(screen.call("/api/entries/36")[1]["second"]["second"], 1_743_976_320)
-        withdrawn = screen.post({"kind": "withdraw", "f1": "036", "f2": "1", "ref": "SCR-ANNA-2"})[1]
-        self.assertEqual((withdrawn["equal"], screen.number()), (True, 104))
+        withdrawn = screen.post({"kind": "withdraw", "f1": "036", "f2": "1", "ref": "SCR-ANNA-2"})[0]
+        self.assertEqual((withdrawn, screen.number()), (200, 104))
         self.assertIsNone(screen.call("/health")[1]["differs"])
 
     def test_the_second_that_is_now(self) -> None:
@@ -339,7 +339,7 @@ class Faults(support.Case):
                 time.sleep(chance.uniform(0.0, 0.3))
                 try:
                     os.kill(screen.desk_process(), signal.SIGKILL)
-                except (OSError, IndexError):
+                except (OSError, StopIteration):
                     pass
                 support.until(lambda: ended.is_set() or self.has_desk(screen), what="the next desk")
             ended.set()
@@ -354,7 +354,7 @@ class Faults(support.Case):
                 self.assertIn("it isn't known whether this is saved", shown["words"])
                 status, shown = screen.post({**command, "ref": f"SCR-ANNA-{sent}"})
             self.assertEqual(status, 200, shown)
-            self.assertEqual((shown["reply"]["no"], shown["equal"]), (103 + sent, True))
+            self.assertEqual(shown["reply"]["no"], 103 + sent)
             sent, tries = sent + 1, tries + shown["tries"]
         killer.join()
         print(f"{sent} commands in {tries} tries while the desk was killed {times} times", flush=True)
@@ -367,7 +367,7 @@ class Faults(support.Case):
     def has_desk(self, screen: support.Screen) -> bool:
         try:
             screen.desk_process()
-        except (OSError, IndexError):
+        except (OSError, StopIteration):
             return False
         return bool(screen.call("/health")[1]["desk"] == "here")
 
@@ -380,7 +380,7 @@ class Faults(support.Case):
         screen.log_in("ANNA")
         proxy.cuts = 2
         status, shown = screen.post({**LIGHTHOUSE, "ref": "SCR-ANNA-1"})
-        self.assertEqual((status, shown["reply"]["no"], shown["tries"], shown["equal"]), (200, 103, 3, True))
+        self.assertEqual((status, shown["reply"]["no"], shown["tries"]), (200, 103, 3))
         self.assertEqual(screen.number(), 103)
 
     def test_a_desk_that_is_away(self) -> None:
@@ -391,14 +391,32 @@ class Faults(support.Case):
         support.until(lambda: screen.call("/health")[1]["desk"] == "away", what="the desk away")
         self.assertEqual(screen.call("/health")[0], 503)
         self.assertEqual(screen.call("/api/now")[0], 200)
+        forecast = "/api/forecast?kind=switch&f1=LBS-22&f2=close&f3=1743976320&f4=5&f5=ANNA"
+        self.assertEqual(screen.call(forecast)[1]["total"], -1_440)  # the copy says so
         again = self.desk(desk.book, desk.port)
         support.until(lambda: screen.call("/health")[1]["desk"] == "here", what="the desk here")
 
-    def test_the_screen_takes_its_desk_with_it(self) -> None:
+    def test_pages_while_the_desk_hangs(self) -> None:
+        """The copy answers in its place after a short wait, the steps of an outage among others."""
         screen = self.screen()
-        desk = screen.desk_process()
+        steps = [["switch", "LBS-22", position, "1743976320", "5", "ANNA"] for position in ("close", "open")]
+        forecast = f"/api/forecast?{urllib.parse.urlencode({'steps': json.dumps(steps)})}"
+        self.assertEqual(screen.call(forecast)[0], 200)  # there is a copy
+        before, desk = screen.call("/api/now")[1], screen.desk_process()
+        os.kill(desk, signal.SIGSTOP)
+        self.addCleanup(os.kill, desk, signal.SIGCONT)
+        begun = time.monotonic()
+        self.assertEqual(screen.call("/api/now")[1], before)
+        for route in (forecast, "/api/position?device=LBS-22", "/api/changes", "/api/sheet?feeder=1"):
+            self.assertEqual(screen.call(route)[0], 200, route)
+        self.assertLess(time.monotonic() - begun, support.limit(6.0))
+
+    def test_the_screen_takes_its_desk_and_the_copy_with_it(self) -> None:
+        screen = self.screen()
+        children = Path(f"/proc/{screen.process.pid}/task/{screen.process.pid}/children")
+        desks = support.until(lambda: len(found := children.read_text().split()) == 2 and found, what="the copy")
         screen.process.kill()
-        support.until(lambda: not is_running(desk), what="its end")
+        support.until(lambda: not any(is_running(int(desk)) for desk in desks), what="their end")
 
 
 class Cutter:

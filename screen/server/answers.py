@@ -1,0 +1,103 @@
+"""What the desk answers to questions that change nothing: the supply at a second, and the plan of a command."""
+
+from __future__ import annotations
+
+import json
+from collections.abc import Sequence
+from dataclasses import dataclass
+from typing import Any
+
+from .desk import Answer, Away
+from .reader import Moves
+from .state import Refused
+
+Interval = tuple[
+    int, int, int
+]  # seconds without supply, from one up to another, and the entry that cut off (0: none did)
+
+
+@dataclass(frozen=True)
+class Outage:
+    """A section without supply at a second: since when, until when as the book stands, and the entry that cut it off."""
+
+    section: str
+    since: int
+    until: int
+    entry: int  # 0 where none did
+    cause: int
+    customers: int
+
+
+@dataclass(frozen=True)
+class Supply:
+    """The sections without supply at a second, and of each device by its name whether it is closed, its life aside, and
+    whether it is in the network."""
+
+    second: int
+    outages: list[Outage]
+    closed: dict[str, bool]
+    alive: dict[str, bool]
+
+
+@dataclass(frozen=True)
+class SectionChange:
+    """All outages of a section before a command and after it."""
+
+    section: str
+    before: list[Interval]
+    after: list[Interval]
+
+
+@dataclass(frozen=True)
+class Plan:
+    """What a command would move, and the sections whose outages it would change."""
+
+    moves: Moves
+    changes: list[SectionChange]
+
+
+class NotPlanned(Exception):
+    """The desk would refuse the command: with this reply."""
+
+    def __init__(self, reply: dict[str, Any]):
+        super().__init__(reply.get("name"))
+        self.reply = reply
+
+
+def command_body(kind: str, fields: Sequence[str], ref: str = "") -> bytes:
+    """A command as the desk reads it; an end that is none is left out."""
+    told = {f"f{place}": text for place, text in enumerate(fields, 1) if text not in ("", "-")}
+    return json.dumps({"kind": kind, **({"ref": ref} if ref else {}), **told}).encode()
+
+
+def moves_in(reply: dict[str, Any]) -> Moves:
+    return [(dim, key, amount) for dim, key, amount in reply["moved"]]
+
+
+def supply_in(answer: Answer) -> Supply:
+    if answer.status == 404:
+        raise Refused("the second lies outside the book's period")
+    told = answer.json()
+    outages = [outage_in(row) for row in told["sections"]]
+    closed = {row["device"]: row["position"] == "closed" for row in told["devices"]}
+    return Supply(told["second"], outages, closed, {row["device"]: row["alive"] for row in told["devices"]})
+
+
+def outage_in(row: dict[str, Any]) -> Outage:
+    told: dict[str, Any] = {**row, "entry": row["entry"] or 0}
+    return Outage(**told)
+
+
+def plan_in(answer: Answer) -> Plan:
+    """Raises the refusal that the command would have."""
+    if answer.status == 404:
+        raise Away("the desk's program is older than this screen: it doesn't plan commands")
+    told = answer.json()
+    if answer.status != 200:
+        raise NotPlanned(told)
+    changes = [SectionChange(row["section"], spans(row["before"]), spans(row["after"])) for row in told["sections"]]
+    return Plan(moves_in(told), changes)
+
+
+def spans(intervals: Sequence[Sequence[int]]) -> list[Interval]:
+    return [(since, until, entry or 0) for since, until, entry, _ in intervals]

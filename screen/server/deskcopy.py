@@ -1,0 +1,257 @@
+"""A desk over a copy of the book, in a folder that goes away: steps are tried on it one after the other and taken back. It
+follows what the book's own desk accepts, and is asked what changes nothing while that one gives no answer."""
+
+from __future__ import annotations
+
+import asyncio
+import os
+import secrets
+import shutil
+import tempfile
+from collections import deque
+from collections.abc import AsyncIterator, Awaitable, Callable, Iterator, Sequence
+from contextlib import asynccontextmanager, contextmanager
+from dataclasses import dataclass, replace
+from itertools import chain
+from pathlib import Path
+from typing import Any
+
+from .answers import NotPlanned, Plan, SectionChange, Supply, command_body, moves_in, plan_in, supply_in
+from .apart import Apart
+from .desk import Answer, Away, Desk, OwnDesk
+from .reader import BookError, Command, Moves, copy_of, counts_of
+from .state import Refused
+
+MEMORY = Path("/dev/shm")
+ROOM = 4  # times the size of the book, for what is tried
+READY_SECONDS = 12.0  # for one's turn, and for a copy that is being made
+MOST_LATER = 1_000  # commands that a copy follows; after more of them there is a new one
+MOST_MADE = 20_000  # entries that were tried and taken back in a copy: a book takes 50,000
+OPPOSITES = {"mark": "unmark", "unmark": "mark"}
+Step = Sequence[str]  # a command's kind and its fields
+Order = Sequence[int]  # places of steps
+
+
+@dataclass(frozen=True)
+class Tried:
+    """What a step would do, and the supply at its second before it, where that was looked at."""
+
+    plan: Plan
+    before: Supply | None
+
+
+async def within(seconds: float, waited: Awaitable[Any], why: Callable[[], str]) -> None:
+    """Waits for something; where it takes too long it is away, and why."""
+    try:
+        async with asyncio.timeout(seconds):
+            await waited
+    except TimeoutError:
+        raise Away(why()) from None
+
+
+def copied(book: Path) -> tuple[tempfile.TemporaryDirectory[str], int, int]:
+    """A folder with a copy of a book, in memory where there is some, and how many commands and entries it has."""
+    with copy_of(book) as copy:
+        commands, entries = counts_of(copy)
+        copy.with_name(f"{copy.name}-shm").unlink(missing_ok=True)  # of the counting
+        has_room = os.access(MEMORY, os.W_OK) and shutil.disk_usage(MEMORY).free > ROOM * copy.stat().st_size
+        folder = tempfile.TemporaryDirectory(prefix="screen-copy-", dir=MEMORY if has_room else None)
+        shutil.copytree(copy.parent, folder.name, dirs_exist_ok=True)
+    return folder, commands, entries
+
+
+class DeskCopy(OwnDesk):
+    def __init__(self, program: str, original: Path):
+        super().__init__(Desk(None), program, original)
+        self.original = original
+        self.copies = Apart("copies")
+        self.order = asyncio.Lock()
+        self.ready = asyncio.Event()
+        self.known = 0  # the last of the book's commands that the copy has
+        self.later: deque[tuple[Command, Moves]] = deque(maxlen=MOST_LATER)
+        self.entries: list[int] = []  # the copy's number of each of the book's entries
+        self.numbers: dict[int, int] = {}  # the book's number of each of these
+        self.changes: deque[tuple[int, list[SectionChange]]] = deque(
+            maxlen=MOST_LATER
+        )  # by the commands that it followed
+        self.made = 0  # entries that the copy has
+
+    # The copy, and its following.
+
+    async def run_once(self) -> str:
+        self.later.clear()
+        self.changes.clear()
+        self.desk.why_away = self.process = None
+        try:
+            self.folder, self.known, self.made = await self.copies.run(copied, self.original)
+        except (BookError, OSError) as error:
+            return str(error)
+        self.entries = list(range(1, self.made + 1))
+        self.numbers = {number: number for number in self.entries}
+        self.book = Path(self.folder.name) / "book.db"
+        try:
+            return await super().run_once()
+        finally:
+            self.ready.clear()
+            self.folder.cleanup()
+
+    def is_here(self) -> None:
+        self.folder.cleanup()  # the desk has the files open: they go with it, however this process ends
+        self.ready.set()
+
+    def note(self, command: Command, moves: Moves) -> None:
+        """Has the copy follow a command that the desk accepted, before it is asked again."""
+        if len(self.later) == MOST_LATER and self.ready.is_set():
+            self.throw_away()
+        self.later.append((command, moves))
+
+    def throw_away(self) -> None:
+        """The copy isn't the book any more: another one is made."""
+        self.ready.clear()
+        if self.process is not None and self.process.returncode is None:
+            self.process.kill()
+
+    @asynccontextmanager
+    async def turn(self) -> AsyncIterator[None]:
+        """The copy for one question, as of the last command that is known."""
+        await within(READY_SECONDS, self.order.acquire(), lambda: "the copy of the desk is busy")
+        try:
+            await within(READY_SECONDS, self.ready.wait(), self.why)
+            with self.whole_or_gone():
+                await self.follow()
+                yield
+        finally:
+            self.order.release()
+
+    def why(self) -> str:
+        """Why there is no copy."""
+        return self.desk.why_away or "the copy of the desk is being made"
+
+    @contextmanager
+    def whole_or_gone(self) -> Iterator[None]:
+        """Some work with the copy. Where it breaks off nothing is known of the copy any more: there will be another one."""
+        try:
+            yield
+        except (Refused, NotPlanned):
+            raise
+        except BaseException:
+            self.throw_away()
+            raise
+        if self.made - len(self.entries) > MOST_MADE:
+            self.throw_away()
+
+    async def follow(self) -> None:
+        while self.later:
+            command, moves = self.later[0]
+            if command.number > self.known:
+                await self.take(command, moves)
+            self.later.popleft()
+
+    async def take(self, command: Command, moves: Moves) -> None:
+        """Acts the next command, which has to move what it moved in the book; which outages it changed is kept."""
+        try:
+            planned = await self.own_plan(command.kind, command.fields)
+            is_same = await self.act(command.kind, command.fields, command.ref) == moves
+        except NotPlanned:
+            is_same = False
+        if command.number != self.known + 1 or not is_same:
+            raise Away(f"the copy of the desk could not follow command {command.number}")
+        self.known = command.number
+        if command.kind == "switch":
+            self.entries.append(self.made)
+            self.numbers[self.made] = len(self.entries)
+        self.changes.append((self.known, [self.told(change) for change in planned.changes]))
+
+    def told(self, change: SectionChange) -> SectionChange:
+        """A change with the book's numbers of entries."""
+        before, after = (
+            [(since, until, self.numbers.get(entry, 0)) for since, until, entry in intervals]
+            for intervals in (change.before, change.after)
+        )
+        return SectionChange(change.section, before, after)
+
+    async def act(self, kind: str, fields: Sequence[str], ref: str = "") -> Moves:
+        """Sends a command to the copy for real."""
+        return await self.send(kind, self.own(kind, fields), ref or f"TRY-{secrets.token_hex(12).upper()}")
+
+    async def send(self, kind: str, fields: Sequence[str], ref: str) -> Moves:
+        answer = await self.desk.ask("POST", "/commands", command_body(kind, fields, ref))
+        if answer.status != 200:
+            raise Away(f"the copy of the desk refused {kind}: {answer.body.decode(errors='replace')}")
+        self.made += kind == "switch"
+        return moves_in(answer.json())
+
+    def own(self, kind: str, fields: Sequence[str]) -> Sequence[str]:
+        """The fields of a command with the copy's own number of an entry; those of an entry that isn't there stay."""
+        number = int(fields[0]) if kind in ("correct", "withdraw") and fields[0].isdecimal() else 0
+        return [str(self.entries[number - 1]), *fields[1:]] if 1 <= number <= len(self.entries) else fields
+
+    # What is asked of it.
+
+    async def supply(self, second: int) -> Supply:
+        async with self.turn():
+            return await self.own_supply(second)
+
+    async def own_supply(self, second: int) -> Supply:
+        found = supply_in(await self.desk.ask("GET", f"/supply/{second}"))
+        return replace(found, outages=[replace(row, entry=self.numbers.get(row.entry, 0)) for row in found.outages])
+
+    async def plan(self, kind: str, fields: Sequence[str]) -> Plan:
+        async with self.turn():
+            return await self.own_plan(kind, fields)
+
+    async def own_plan(self, kind: str, fields: Sequence[str]) -> Plan:
+        return plan_in(await self.desk.ask("POST", "/plan", command_body(kind, self.own(kind, fields))))
+
+    async def changes_after(self, number: int) -> tuple[int, list[SectionChange]] | None:
+        """The last command that the copy has, and how those after a number changed outages, in their order; None where it hasn't
+        followed all of them."""
+        async with self.turn():
+            found = [changes for command, changes in self.changes if command > number]
+            return (self.known, list(chain.from_iterable(found))) if len(found) == self.known - number else None
+
+    async def ask(self, route: str) -> Answer:
+        """A view of the whole book."""
+        async with self.turn():
+            return await self.desk.ask("GET", route)
+
+    async def indices_around(self, kind: str, fields: Sequence[str]) -> tuple[Any, Any]:
+        """The indices before a day is marked, or unmarked, and after it."""
+        async with self.turn():
+            before = (await self.desk.ask("GET", "/indices")).json()
+            await self.act(kind, fields)
+            after = (await self.desk.ask("GET", "/indices")).json()
+            await self.act(OPPOSITES[kind], fields)
+            return before, after
+
+    async def walk(self, steps: Sequence[Step], orders: Sequence[Order]) -> list[list[Tried]]:
+        """What each of some steps would do on what those before it leave, for each order of them; then all is taken back."""
+        async with self.turn():
+            return [await self.walk_once(steps, order, order is orders[0]) for order in orders]
+
+    async def walk_once(self, steps: Sequence[Step], order: Order, looks: bool) -> list[Tried]:
+        tried: list[Tried] = []
+        made: list[str] = []
+        try:
+            for place in order:
+                kind, *fields = steps[place]
+                try:
+                    plan = await self.own_plan(kind, fields)
+                except NotPlanned as refused:
+                    raise NotPlanned({**refused.reply, "step": place}) from None
+                looked = await self.own_supply(int(fields[2])) if looks and kind == "switch" else None
+                tried.append(Tried(plan, looked))
+                if place != order[-1]:
+                    await self.act(kind, fields)
+                    made.append(kind)
+            return tried
+        finally:
+            await self.take_back(made)
+
+    async def take_back(self, kinds: Sequence[str]) -> None:
+        """Withdraws the switchings that were tried last; what else was tried leaves another book."""
+        if any(kind != "switch" for kind in kinds):
+            self.throw_away()
+        else:
+            for number in range(self.made, self.made - len(kinds), -1):
+                await self.send("withdraw", [str(number), "1"], f"BACK-{secrets.token_hex(12).upper()}")

@@ -1,0 +1,144 @@
+"""What a page shows of what a command would do: the desk's plan, with the sections that lose or get back supply, what a person
+should know who enters it, and why a closing gives nobody back supply."""
+
+from __future__ import annotations
+
+from collections.abc import Iterable, Mapping, Sequence
+
+from .answers import Interval, NotPlanned, Plan, Supply
+from .commands import FIELDS
+from .moments import duration
+from .office import Office
+from .reader import Moves
+from .reasons import still_cut_off
+from .refusals import words_of
+from .state import LATE_SECONDS, Refused, State
+from .to_now import is_live, marks_view
+from .views import Json, command_words, moment
+
+FUTURE_SECONDS = 60  # clocks of browsers and servers differ
+NO_COPY = "How it moves the SAIDI without major event days isn't known now: there is no copy of the desk to try it on."
+Changes = Mapping[str, tuple[Sequence[Interval], Sequence[Interval]]]  # by section: its outages before and after
+
+
+async def forecast(office: Office, kind: str, fields: Sequence[str]) -> Json:
+    """What a command would do as the book stands."""
+    if kind not in FIELDS:
+        raise Refused(f"there is no command {kind}")
+    try:
+        planned = await office.plan(kind, fields)
+    except NotPlanned as refused:
+        raise Refused(refusal_words(office.state, kind, fields, refused)) from None
+    second = second_of(kind, fields)
+    supply = None if second is None else await office.supply(second)
+    shown = forecast_view(office.state, kind, fields, planned.moves, changes_of([planned]))
+    shown |= notes_of(office.state, kind, fields, supply, bool(shown["sections"]))
+    shown["hints"] += late_hints(kind, -ahead_of(office.state, second))
+    if kind in ("mark", "unmark"):
+        shown["unmarked"] = await marks_view(office, kind, fields)
+        shown["hints"] += [] if shown["unmarked"] else [NO_COPY]
+    return shown
+
+
+def refusal_words(state: State, kind: str, fields: Sequence[str], refused: NotPlanned) -> str:
+    """Why the desk wouldn't take a command, as a part of a sentence."""
+    told = {f"f{place}": text for place, text in enumerate(fields, 1)}
+    words = words_of(state, {"kind": kind, **told}, refused.reply)
+    return words[0].lower() + words[1:].removesuffix(".")
+
+
+def second_of(kind: str, fields: Sequence[str]) -> int | None:
+    """The second at which an entry acts that is made or changed."""
+    text = fields[-3] if kind in ("switch", "correct") else ""
+    return int(text) if text.isdecimal() else None
+
+
+def ahead_of(state: State, second: int | None) -> int:
+    return 0 if second is None else second - state.now()
+
+
+def changes_of(plans: Iterable[Plan]) -> Changes:
+    """The sections that some plans change, each on what those before it leave: their outages before and after all."""
+    found: dict[str, tuple[Sequence[Interval], Sequence[Interval]]] = {}
+    for planned in plans:
+        for row in planned.changes:
+            found[row.section] = found.get(row.section, (row.before,))[0], row.after
+    return found
+
+
+def forecast_view(state: State, kind: str, fields: Sequence[str], moves: Moves, changes: Changes) -> Json:
+    ahead = ahead_of(state, second_of(kind, fields))
+    return {
+        "number": state.number,
+        "sections": sections_of(state, changes),
+        "moved": [list(move) for move in moves],
+        "total": sum(amount for dim, _, amount in moves if dim == "cause"),
+        "hints": [],
+        "reason": None,
+        "is_live": is_live(state),
+        "unmarked": None,
+        "future": duration(ahead) if ahead > FUTURE_SECONDS else None,
+        "words": command_words(state, kind, fields),
+    }
+
+
+def sections_of(state: State, changes: Changes) -> list[Json]:
+    """The sections whose supply changes: seconds lost and got back, and customers when that begins. One that would join the
+    network isn't there yet."""
+    rows: list[Json] = []
+    for name, (before, after) in changes.items():
+        lost, back = uncovered(after, before), uncovered(before, after)
+        if name not in state.node_numbers or not lost + back:
+            continue
+        since, until = min(part[0] for part in lost + back), max(part[1] for part in lost + back)
+        shown: Json = {"section": name, "feeder": state.feeder_of(name)}
+        shown["customers"] = state.customers_at(state.node_numbers[name], since)
+        shown |= {"since": moment(state, since), "until": moment(state, until)}
+        rows.append({**shown, "loses": length(lost), "gets_back": length(back)})
+    return sorted(rows, key=lambda row: (row["feeder"], row["section"]))
+
+
+def length(parts: Iterable[tuple[int, int]]) -> int:
+    return sum(until - since for since, until in parts)
+
+
+def uncovered(outages: Sequence[Interval], others: Sequence[Interval]) -> list[tuple[int, int]]:
+    """The seconds of some outages that lie in none of others; both rising."""
+    parts = []
+    for since, until, _ in outages:
+        for begin, end, _ in others:
+            if end <= since or begin >= until:
+                continue
+            if since < begin:
+                parts.append((since, begin))
+            since = max(since, end)
+        if since < until:
+            parts.append((since, until))
+    return parts
+
+
+def notes_of(state: State, kind: str, fields: Sequence[str], supply: Supply | None, changes_supply: bool) -> Json:
+    """What a person should know who enters a switching, by the supply at its second before it; nothing of it is a refusal."""
+    is_switch = kind == "switch"
+    if supply is None or not is_switch and int(fields[0]) > len(state.entries):
+        return {"hints": [], "reason": None}
+    closes = fields[-4] == "close"
+    device = state.device_numbers[fields[0]] if is_switch else state.entries[int(fields[0]) - 1].device
+    name, hints = state.devices[device].name, []
+    if is_switch and not supply.alive[name]:
+        hints.append(
+            f"{name} isn't in the network at that second: the entry acts from the beginning of a later life on."
+        )
+    if is_switch and supply.closed[name] == closes:
+        hints.append(f"{name} is {'closed' if closes else 'open'} at that second already.")
+    entry = len(state.entries) + 1 if is_switch else int(fields[0])
+    reason = still_cut_off(state, supply, device, entry) if closes and not changes_supply else None
+    return {"hints": hints, "reason": reason}
+
+
+def late_hints(kind: str, behind: int) -> list[str]:
+    return (
+        [f"This is a late entry: it lies {duration(behind)} back."]
+        if kind == "switch" and behind > LATE_SECONDS
+        else []
+    )
