@@ -27,7 +27,7 @@ use Rattle.ob_state.specs.States.{AreRunsOf}
 use Rattle.ob_book.specs.Forecasts.{interval_in, intervals_of}
 use Rattle.ob_book.specs.Intervals.{cause_then, entry_said, interval_then, is_section_then, runs_then}
 
-some_true : (o : Option ℕ) → is_some o ≡ true → IsSome o
+pub some_true : {X : Type 0} (o : Option X) → is_some o ≡ true → IsSome o
 some_true o e = e
 
 -- ---- causes

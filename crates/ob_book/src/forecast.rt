@@ -8,7 +8,7 @@ ghost use Rattle.ob_book.specs.Forecasts as definition;
 ghost use Rattle.ob_book.specs.Intervals.{nodes_then};
 ghost use Rattle.ob_book.specs.Plans.{IsPlan};
 
-use crate::intervals::{intervals_after, intervals_before};
+use crate::intervals::{intervals_after, intervals_before, keeps_intervals};
 use crate::plan::Plan;
 use ob_base::{Name, Stop};
 use ob_json::{SectionChange, same_intervals};
@@ -55,6 +55,9 @@ fn section_change<T: Timeline>(
         ≡ definition.section_change state.now.state (next state.now.state plan.now.command) node) }
     ensures err { IfErr result (λ stop. stop ≡ out_of_memory) }
 {
+    if keeps_intervals(state, plan, node) {
+        return Ok(None);
+    }
     let before = intervals_before(alloc, state, timeline, node)?;
     let after = intervals_after(alloc, state, timeline, plan, node)?;
     if same_intervals(&before, &after) {

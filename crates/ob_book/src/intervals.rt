@@ -1,11 +1,17 @@
 //! The outage intervals of a node, each with its cause, before an accepted command and after it.
-ghost use Rattle.std.specs.Prelude.{◌≡◌, ◌<◌, IfOk, IfErr, is_some, length, map};
+ghost use Rattle.std.specs.Prelude.{◌≡◌, ◌<◌, List, IfOk, IfErr, IsTrue, is_some, length, map};
+ghost use Rattle.std.specs.Option.{IfSome};
 ghost use Rattle.ob_base.specs.Stop.{out_of_memory};
 ghost use Rattle.ob_net.specs.Network.{home_feeder};
 ghost use Rattle.ob_post.specs.CauseLaws.{cause_with};
+ghost use Rattle.ob_post.specs.Causes.{KeepsCause};
 ghost use Rattle.ob_post.specs.SectionAmounts.{run_cause};
+ghost use Rattle.ob_sweep.specs.Deltas.{new_runs};
 ghost use Rattle.ob_sweep.specs.Deltas as deltas;
+ghost use Rattle.ob_sweep.specs.Timeline.{runs_at};
+ghost use Rattle.ob_sweep.specs.declared.Run.{Run as ARun};
 ghost use Rattle.ob_state.specs.Next.{next};
+ghost use Rattle.ob_state.specs.Resolved.{change_by};
 ghost use Rattle.ob_state.specs.States.{AreRunsOf};
 ghost use Rattle.ob_book.specs.Forecasts.{intervals_of};
 ghost use Rattle.ob_book.specs.Intervals.{cause_then, entry_said, interval_then, is_section_then, runs_then};
@@ -20,6 +26,22 @@ use ob_sheet::{Entry, Sheet};
 use ob_state::{Resolved, Retiming, State};
 use ob_sweep::{Delta, Run, Timeline};
 use std::alloc::Global;
+
+/// Whether a plan alone shows that its command leaves a node's outage intervals and their causes as
+/// they are. They may also stay where the answer is `false`.
+pub fn keeps_intervals<T: Timeline>(state: &State, plan: &Plan<T>, node: u16) -> bool
+    requires plan { IsPlan state.now.state plan.now }
+    ensures { IsTrue result → (lists : List (List ARun)) → AreRunsOf state.now.state lists
+        → intervals_of state.now.state node
+        ≡ intervals_of (next state.now.state plan.now.command) node }
+{
+    cause_laws();
+    let _ = state.accepted();
+    if node >= state.net().nodes() || gives_another_cause(plan.resolved()) {
+        return false;
+    }
+    keeps_runs(plan.retiming(), node)
+}
 
 /// Returns the outage intervals of a node before a command; none if the node is a bus or isn't
 /// there yet. Fails only if an allocation fails.
@@ -63,6 +85,36 @@ pub fn intervals_after<T: Timeline>(
     }
     let runs = runs_after(timeline, plan.retiming(), node);
     with_causes(alloc, state.sheet(), &entry_of(resolved), runs)
+}
+
+// Whether a command gives an entry another cause. No outage interval has an added entry's number
+// yet, and a withdrawn entry keeps its cause.
+#[tactic(auto, using(crate::proofs::Unchanged::keeps_cause))]
+fn gives_another_cause(resolved: &Resolved) -> bool
+    ensures { ¬ IsTrue result → IfSome (change_by resolved.now) KeepsCause }
+{
+    match *resolved {
+        Resolved::Corrected { old, new } => new.cause != old.cause,
+        _ => false,
+    }
+}
+
+// Whether a change of the outage intervals leaves those of a node as they are.
+fn keeps_runs(retiming: &Retiming, node: u16) -> bool
+    ensures { IsTrue result → (lists : List (List ARun)) → runs_then retiming.now lists node
+        ≡ runs_at lists node }
+{
+    match retiming {
+        Retiming::Same => true,
+        Retiming::By(delta) => !is_touched(delta, node),
+    }
+}
+
+// Whether a change of the outage intervals names a node.
+fn is_touched(delta: &Delta, node: u16) -> bool
+    ensures { result ≡ is_some (new_runs delta.now node) }
+{
+    delta.touched().binary_search(&node).is_ok()
 }
 
 // Whether a node is a section.
@@ -123,7 +175,7 @@ fn runs_by<'a, T: Timeline>(timeline: &'a T, delta: &'a Delta, node: u16) -> &'a
     requires { node < length (T.content timeline.now) }
     ensures { result.now ≡ deltas.runs_after delta.now (T.content timeline.now) node }
 {
-    if delta.touched().binary_search(&node).is_ok() {
+    if is_touched(delta, node) {
         return delta.runs(node);
     }
     timeline.runs_of(node)

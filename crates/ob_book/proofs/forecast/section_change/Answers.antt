@@ -5,7 +5,14 @@ use Rattle.ob_state.specs.Next.{next}
 use Rattle.ob_book.specs.Forecasts.{intervals_of, name_of_node}
 use Rattle.ob_book.specs.Intervals.{nodes_then}
 use Rattle.ob_book.proofs.Forecasting.{changed_section, name_is, nodes_lead}
+use Rattle.ob_book.proofs.Unchanged.{not_shown}
 use Rattle.ob_book.proofs.forecast.section_change.Goals as goal
+
+pub returns-then-keeps_intervals-clause-change : goal.returns-then-keeps_intervals-clause-change
+returns-then-keeps_intervals-clause-change g c =
+    let b = c.args.state.now.state in
+    not_shown b (next b c.args.plan.now.command) c.args.node
+    (c.keeps_intervals.ensures c.if-keeps_intervals.true (g.T.Timeline.content c.args.timeline.now) c.requires.runs)
 
 pub returns-clause-change : goal.returns-clause-change
 returns-clause-change g c =
