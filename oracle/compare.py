@@ -13,6 +13,7 @@ import argparse
 import subprocess
 import sys
 import tempfile
+from collections import Counter
 from collections.abc import Callable, Iterator
 from pathlib import Path
 
@@ -133,12 +134,12 @@ def compare(seeds: int, difference_of: Callable[[PeriodWords, bytes], Difference
     return 0
 
 
-def others(program: str | Path, seeds: int) -> Iterator[tuple[str, Difference | None]]:
+def others(program: str | Path, seeds: int, counts: Counter[str]) -> Iterator[tuple[str, Difference | None]]:
     """The name of each book that is served or was of version 1, and how it differs."""
     for sql, name, period in compare_old.OLD_FILES:
         yield f"{sql}", compare_old.old_file_difference(program, sql, name, period)
     for seed in range(1, seeds + 1):
-        yield f"seed {seed}, served", compare_streams.difference(program, seed)
+        yield f"seed {seed}, served", compare_streams.difference(program, seed, counts)
         period = period_of(seed)
         yield f"seed {seed} of version 1", compare_old.difference(program, period, old_text_of(seed))
         if seed % 4 == 0:
@@ -148,12 +149,14 @@ def others(program: str | Path, seeds: int) -> Iterator[tuple[str, Difference | 
 def compare_others(program: str | Path, seeds: int) -> int:
     """Compares these up to the first difference, which it prints; answers the status to end with."""
     count = 0
-    for name, found in others(program, seeds):
+    counts: Counter[str] = Counter()
+    for name, found in others(program, seeds, counts):
         if found:
             print(f"{name}: {found[0]}\nwanted {found[1]!r}\nfound {found[2]!r}")
             return 1
         count += 1
     print(f"{count} books that are served or of version 1 are those of the model")
+    print(f"so are {counts['plans']} plans of commands, and the supply at {counts['supplies']} seconds")
     return 0
 
 

@@ -13,6 +13,7 @@ import socket
 import subprocess
 import tempfile
 import threading
+from collections import Counter
 from collections.abc import Iterator, Sequence
 from pathlib import Path
 
@@ -88,7 +89,14 @@ def wanted_of(book: Book, requests: Sequence[Request]) -> bytes:
     return b"".join(reply_data(answer_of(book, request), request is requests[-1]) for request in requests)
 
 
-def difference(program: str | Path, seed: int) -> Difference | None:
+def count(counts: Counter[str], requests: Sequence[Request]) -> None:
+    """Counts the plans and the questions about the supply at a second among requests."""
+    for request in requests:
+        counts["plans"] += request.target == "/plan"
+        counts["supplies"] += request.target.startswith("/supply/")
+
+
+def difference(program: str | Path, seed: int, counts: Counter[str]) -> Difference | None:
     """The first stream, job or table of a seed's book in which the desk and the model differ."""
     period = period_of(seed)
     book = Book(Period(*period))
@@ -100,6 +108,7 @@ def difference(program: str | Path, seed: int) -> Difference | None:
             wanted, found = wanted_of(book, requests), served(over, seed, requests)
             if found != wanted:
                 return f"stream {number}", wanted, found
+            count(counts, requests)
         if (said := over.run("audit")) != SOUND:
             return "audit", SOUND, said
         table = first_difference(book, over.book)
