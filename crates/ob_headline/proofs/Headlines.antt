@@ -29,6 +29,7 @@ use Rattle.ob_book.specs.Acts.{ActState, PeriodStays, Referenced, acts, book_at,
 use Rattle.ob_book.specs.Books.{ArePosted}
 use Rattle.ob_book.specs.MovedSums.{MovesAddUpToPostings, moved_by_first}
 use Rattle.ob_book.specs.Views.{annual_table_of_book, counts_of_book, indices_of_book, indices_text_of_book, service_of_book, totals_of_book, without_supply_of_book}
+use Rattle.ob_record.specs.Reached.{IsReached}
 use Rattle.ob_headline.specs.Headline.{CutsOff, IsHeadline, IsInterrupted, is_interrupted}
 use Rattle.ob_headline.specs.declared.figures.Shown.{Shown}
 
@@ -94,12 +95,12 @@ pub record IsShownOf (s : BookState) (dim : Dim) (key : ℕ) (which : Which) (po
   pub table : shown.annual_table ≡ annual_table_of_book s
 
 module _ (walks : Walks) (stays : PeriodStays) (of_change : MovesAreOfChange) (agree : TotalsAgree) (add_up : MovesAddUpToPostings)
-    (b : ActState) (in_turn : acts (start b.book.period) b.accepted ≡ b) (dim : Dim) (key : ℕ) (which : Which) (posted : PostedAmounts) (shown : Shown) where
+    (b : ActState) (reached : IsReached b) (dim : Dim) (key : ℕ) (which : Which) (posted : PostedAmounts) (shown : Shown) where
   -- all that the commands moved
   moved_all : ArePosted b.book posted → IsKey (day_count b.book.period) dim key
       → delta_of (moved_by_first b (length b.accepted)) dim key ≡ pos (amount_of posted dim key)
   moved_all are k =
-      subst (λ (x : ActState). ArePosted x.book posted → delta_of (moved_by_first x (length x.accepted)) dim key ≡ pos (amount_of posted dim key)) in_turn
+      subst (λ (x : ActState). ArePosted x.book posted → delta_of (moved_by_first x (length x.accepted)) dim key ≡ pos (amount_of posted dim key)) reached.in_turn
       (λ are. add_up b.book.period b.accepted posted are dim key k) are
 
   -- the amounts of all keys
@@ -110,7 +111,8 @@ module _ (walks : Walks) (stays : PeriodStays) (of_change : MovesAreOfChange) (a
 
   of_book : IsShownOf b.book dim key which posted shown → IsHeadline b dim key which shown
   of_book it = record {
-    of_list = in_turn;
+    of_list = reached.in_turn;
+    period = reached.period;
     kept = it.kept;
     unsupplied = λ v s. unsupplied_where walks b.book.network (upto b.book.entries s) v s;
     interrupted = says_interrupted walks b.book;

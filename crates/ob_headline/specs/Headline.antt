@@ -13,6 +13,8 @@ use Rattle.ob_cust.specs.WithoutSupply.{customer_seconds, is_without_supply}
 use Rattle.ob_cust.specs.declared.Customer.{Customer}
 use Rattle.ob_sweep.specs.Cutters.{cuts_off}
 use Rattle.ob_time.specs.Calendar.{day_count, end_second_of, first_second_of}
+use Rattle.ob_time.specs.Dates.{day_text}
+use Rattle.ob_time.specs.Period.{IsPeriodText}
 use Rattle.ob_post.specs.CustomerSeconds.{has_key}
 use Rattle.ob_post.specs.Keys.{IsKey, keys}
 use Rattle.ob_post.specs.Moved.{delta_of}
@@ -73,6 +75,8 @@ HasNoAmount (Some b) dim key = ¬ (IsKey (day_count b.period) dim key)
 pub record IsHeadline (b : ActState) (dim : Dim) (key : ℕ) (which : Which) (shown : Shown) : Type 0 where
   -- the book is what its commands lead to, each accepted in its turn, from a new book of its period
   pub of_list : acts (start b.book.period) b.accepted ≡ b
+  -- the period is the one that its first date, its number of days and its zone name: its days begin at midnights of the zone
+  pub period : IsPeriodText (day_text b.book.period.first_day) (day_count b.book.period) b.book.period.zone b.book.period
   -- it keeps an amount under the key
   pub kept : IsKey (day_count b.book.period) dim key
   -- its tests hold exactly where there is no path, where a customer is in service and has none, and where an entry cuts a node off

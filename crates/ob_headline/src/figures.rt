@@ -3,7 +3,8 @@ ghost use Rattle.std.specs.Prelude.{◌≡◌, IfOk, IfErr};
 ghost use Rattle.ob_base.specs.Stop.{out_of_memory};
 ghost use Rattle.ob_time.specs.Calendar.{day_count};
 ghost use Rattle.ob_post.specs.Keys.{IsKey};
-ghost use Rattle.ob_book.specs.Acts.{ActState, acts, start};
+ghost use Rattle.ob_book.specs.Acts.{ActState};
+ghost use Rattle.ob_record.specs.Reached.{IsReached};
 ghost use Rattle.ob_headline.specs.Headline.{IsHeadline};
 
 use crate::text::Text;
@@ -40,8 +41,8 @@ pub(crate) fn shown_of<T: Timeline>(
     which: Which,
 ) -> Result<Shown, Stop>
     requires key { IsKey (day_count book.now.state.period) dim key }
-    ensures headline { (b : ActState) → acts (start b.book.period) b.accepted ≡ b
-        → book.now.state ≡ b.book → IfOk result (IsHeadline b dim key which) }
+    ensures headline { (b : ActState) → IsReached b → book.now.state ≡ b.book
+        → IfOk result (IsHeadline b dim key which) }
     ensures err { IfErr result (λ stop. stop ≡ out_of_memory) }
 {
     acts_law();

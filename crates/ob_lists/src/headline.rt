@@ -1,7 +1,6 @@
 //! What is shown of a book after any list of calls.
 ghost use Rattle.std.specs.Prelude.{[], List, IfOk, IfSome};
-ghost use Rattle.ob_time.specs.Calendar.{Calendar};
-ghost use Rattle.ob_book.specs.Acts.{start};
+ghost use Rattle.ob_book.specs.Acts.{ActState};
 ghost use Rattle.ob_store.specs.Keepers.{IsClean, KeeperValue};
 ghost use Rattle.ob_lists.specs.Standing.{MayBe, Stands, Told};
 ghost use Rattle.ob_lists.specs.Going.{Goes};
@@ -17,7 +16,7 @@ use ob_post::Dim;
 use ob_store::{Alter, Keeper};
 use ob_sweep::Timeline;
 
-/// Shows the book of a keeper after any list of calls that began with a new book of a period. What
+/// Shows the book of a keeper after any list of calls that began with a book, such as a new one. What
 /// is shown is the headline of one book: the calls may have led to it, the keeper has it and its
 /// store keeps it, and it has each acknowledged command.
 pub fn show<S: Alter, T: Timeline>(
@@ -26,9 +25,9 @@ pub fn show<S: Alter, T: Timeline>(
     key: u16,
     which: Which,
 ) -> Result<Option<Shown>, Stop>
-    ensures { (p : Calendar) (told : List Told) → Stands S.Store (MayBe (start p) told) keeper.now
+    ensures { (b : ActState) (told : List Told) → Stands S.Store (MayBe b told) keeper.now
         → IfOk result (λ shown. IfSome shown
-        (IsShownAfter S.Store p told keeper.now dim key which)) }
+        (IsShownAfter S.Store b told keeper.now dim key which)) }
 {
     next_law();
     told_law();
@@ -44,14 +43,14 @@ pub fn load_and_show<R: Alter, S: Alter, T: Timeline>(
     key: u16,
     which: Which,
 ) -> Result<Option<Shown>, Stop>
-    ensures shows { IsClean S.Store keeper.new → (p : Calendar) (told : List Told)
-        → Stands S.Store (MayBe (start p) told) keeper.old
-        → LoadsAndShows S.Store p told keeper.new dim key which result }
-    // from a keeper that had a new book of the period, by whatever calls, crashes and openings
-    ensures after { IsClean S.Store keeper.new → (p : Calendar) (told : List Told)
-        (first : KeeperValue R) → Stands R.Store (MayBe (start p) []) first
+    ensures shows { IsClean S.Store keeper.new → (b : ActState) (told : List Told)
+        → Stands S.Store (MayBe b told) keeper.old
+        → LoadsAndShows S.Store b told keeper.new dim key which result }
+    // from a keeper that had the book at first, by whatever calls, crashes and openings
+    ensures after { IsClean S.Store keeper.new → (b : ActState) (told : List Told)
+        (first : KeeperValue R) → Stands R.Store (MayBe b []) first
         → Goes R.Store S.Store told first keeper.old
-        → LoadsAndShows S.Store p told keeper.new dim key which result }
+        → LoadsAndShows S.Store b told keeper.new dim key which result }
 {
     next_law();
     told_law();

@@ -17,7 +17,7 @@ returns-in_err-annual_text-clause-err g c =
 
 pub returns-clause-headline : goal.returns-clause-headline
 returns-clause-headline g c =
-    λ b in_turn same. headline c.walk_law.ensures.supplied c.next_law.ensures.period c.move_laws.ensures.change c.total_laws.ensures.agree c.acts_law.ensures.posted b in_turn
+    λ b reached same. headline c.walk_law.ensures.supplied c.next_law.ensures.period c.move_laws.ensures.change c.total_laws.ensures.agree c.acts_law.ensures.posted b reached
     c.args.dim c.args.key c.args.which c.postings-postings.result.now _ c.args.book.now.state same (record {
       kept = c.requires.key;
       are = c.postings-postings.ensures.posted;
