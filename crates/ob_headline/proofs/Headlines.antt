@@ -1,9 +1,8 @@
 -- What is shown of a state is what the headline states of its book.
-use Rattle.std.proofs.Common.{◌≡◌, ◌∙◌, sym, ap, subst, refl, ℕ, ◌+◌, ◌-◌, ◌≤◌, ◌↔◌, pos, ◌-ℤ◌, Bool, true, false, not, ◌&&◌, List, [], ◌∷◌, fold, length, take, sum_by, cond, arith}
+use Rattle.std.proofs.Common.{◌≡◌, ◌∙◌, sym, ap, subst, refl, ℕ, ◌-◌, ◌↔◌, pos, ◌-ℤ◌, Bool, true, false, not, List, [], ◌∷◌, fold, length, take, sum_by}
 use Rattle.std.specs.Prelude.{IsTrue}
 use Rattle.std.proofs.lemmas.Bool.{and_from, and_parts, eq-eqb, eqb-true, false≢true}
 use Rattle.ob_base.proofs.Intervals.{interval_is_longest}
-use Rattle.ob_net.specs.declared.net.Device.{Device}
 use Rattle.ob_base.specs.declared.Pos.{Pos}
 use Rattle.ob_net.specs.Network.{Network}
 use Rattle.ob_net.specs.Walk.{IsSupplied, is_supplied}
@@ -25,7 +24,7 @@ use Rattle.ob_index.specs.Indices.{AreIndices}
 use Rattle.ob_index.specs.declared.figures.Which.{Which}
 use Rattle.ob_state.specs.Amounts.{amount}
 use Rattle.ob_state.specs.State.{BookState}
-use Rattle.ob_book.specs.Acts.{ActState, PeriodStays, Referenced, acts, book_at, reply_of, start, take_on}
+use Rattle.ob_book.specs.Acts.{ActState, PeriodStays, Referenced, book_at, reply_of, start, take_on}
 use Rattle.ob_book.specs.Books.{ArePosted}
 use Rattle.ob_book.specs.MovedSums.{MovesAddUpToPostings, moved_by_first}
 use Rattle.ob_book.specs.Views.{annual_table_of_book, counts_of_book, indices_of_book, indices_text_of_book, service_of_book, totals_of_book, without_supply_of_book}
@@ -58,11 +57,11 @@ says_cut walks b v s e =
     let with_path = walks b.network (positions b.network (before b.entries e) s) v in
     let without = unsupplied_where walks b.network (through b.entries e) v s in (
       λ t. (
-        let all = and_parts _ _ t in
-        let some = and_parts _ _ all.0 in
-        let first = and_parts _ _ some.0 in
-        (first.0, eqb-true e.second s first.1, with_path.0 some.1, without.0 all.1)
-      ),
+          let all = and_parts _ _ t in
+          let some = and_parts _ _ all.0 in
+          let first = and_parts _ _ some.0 in
+          (first.0, eqb-true e.second s first.1, with_path.0 some.1, without.0 all.1)
+          ),
       λ h. and_from _ _ (and_from _ _ (and_from _ _ h.0 (eq-eqb e.second s h.1)) (with_path.1 h.2)) (without.1 h.3),
     )
 

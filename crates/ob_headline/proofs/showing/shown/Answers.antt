@@ -1,4 +1,4 @@
-use Rattle.std.proofs.Common.{subst, sym}
+use Rattle.std.proofs.Common.{◌≡◌, subst, sym}
 use Rattle.std.specs.Prelude.{IfSome, Option}
 use Rattle.ob_state.specs.State.{BookState}
 use Rattle.ob_headline.proofs.showing.shown.Goals as goal
