@@ -1,11 +1,13 @@
-"""Looks over the pages: links that lead nowhere, wide lines, and blocks that nothing pastes and nobody marked.
+"""Looks over the pages: links that lead nowhere, wide lines, wrong numbers of lines, and blocks that nothing pastes and nobody
+marked.
 
     python3 tests/check_pages.py [FOLDER] [--links]
 
 It reads all pages (.md) of a folder, that of the repository if none is named. Wrong is: a link to a file or an anchor that isn't
-there; a line of prose over 120 columns; and a block that is neither pasted (paste_pages.py), nor marked with why it isn't, nor
-named as a text that is only read (```text, ```csv ..). With --links only links are looked at, as in an installed copy. It ends with
-status 1 where something is wrong.
+there; a line of prose over 120 columns; a number after a link to a module (.antt) that isn't that of its lines, or "lines in all"
+that aren't their sum; and a block that is neither pasted (paste_pages.py), nor marked with why it isn't, nor named as a text that
+is only read (```text, ```csv ..). With --links only links are looked at, as in an installed copy. It ends with status 1 where
+something is wrong.
 """
 
 from __future__ import annotations
@@ -23,6 +25,8 @@ WIDEST = 120  # columns of a line of prose
 LEFT_OUT = {"out", ".git", "crates", "bench-data", "sample", "node_modules"}
 LINK = re.compile(r"\]\(([^)\s]*)\)")
 CODE = re.compile(r"`[^`]*`")
+LINES_OF = re.compile(r"\]\(([^)\s]+\.antt)\) (\d+)\b")
+IN_ALL = re.compile(r"([\d,]+) lines in all")
 
 
 def pages_of(folder: Path) -> list[Path]:
@@ -73,6 +77,18 @@ def wide_lines(page: Path) -> Iterator[str]:
             yield f"{page}:{number}: {len(line)} columns"
 
 
+def wrong_lengths(page: Path) -> Iterator[str]:
+    """The numbers of lines that a page gives of modules, and of all of them together, where these are others."""
+    given = [(page.parent / name, int(lines)) for _, line in prose_of(page) for name, lines in LINES_OF.findall(line)]
+    for file, lines in given:
+        if file.exists() and lines != len(file.read_text(encoding="utf-8").splitlines()):
+            yield f"{page}: {file.name} has not {lines} lines"
+    for number, line in prose_of(page):
+        for total in IN_ALL.findall(line):
+            if int(total.replace(",", "")) != sum(count for _, count in given):
+                yield f"{page}:{number}: not {total} lines in all"
+
+
 def is_known(block: Block, after: Block | None, last: Block | None) -> bool:
     """Whether a block is pasted, what a pasted one prints, marked, or named as a text."""
     pasted = any(line.startswith("$ ") for line in block.lines)
@@ -95,7 +111,7 @@ def main() -> int:
     words.add_argument("folder", type=Path, nargs="?", default=ROOT)
     words.add_argument("--links", action="store_true", help="links alone, as in an installed copy")
     said = words.parse_args()
-    looks = [dead_links] if said.links else [dead_links, wide_lines, unknown_blocks]
+    looks = [dead_links] if said.links else [dead_links, wide_lines, wrong_lengths, unknown_blocks]
     pages = pages_of(said.folder)
     wrong = [line for page in pages for look in looks for line in look(page)]
     print("\n".join([*wrong, f"{len(pages)} pages, {len(wrong)} wrong"]))

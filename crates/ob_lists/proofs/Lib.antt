@@ -7,3 +7,4 @@ pub mod Serving
 pub mod Beginning
 pub mod Numbering
 pub mod Planning
+pub mod Headlines

@@ -207,7 +207,7 @@ accepted_in law allowed b c (m ∷ ms) text a (reply, more, Some d, answers, is,
 
 -- ---- what was told
 -- whatever was told last, the book has some commands more than before it
-goes_on : (b x : ActState) (t : Told) (before : List Told) → MayBe b (t ∷ before) x
+pub goes_on : (b x : ActState) (t : Told) (before : List Told) → MayBe b (t ∷ before) x
     → (y : ActState) × MayBe b before y × (commands : List Referenced) × (x ≡ acts y commands)
 goes_on b x (acknowledged a) before (y, was, answered, is) = (y, was, a ∷ [], is)
 goes_on b x (doubted a) before (y, was, inl same) = (y, was, [], same)

@@ -2,3 +2,4 @@ pub mod Importing
 pub mod Streaming
 pub mod Standing
 pub mod Going
+pub mod Headline

@@ -8,6 +8,7 @@
 #![tactic(auto)]
 
 mod calls;
+mod headline;
 mod laws;
 mod lists;
 
@@ -15,6 +16,7 @@ pub use calls::{
     act, audit, create_again, import, import_text, load, migrate, moves_out, plan, reply_of,
     run_serve, serve_stream,
 };
+pub use headline::{load_and_show, show};
 pub use laws::{join_law, restart_law, told_law};
 pub use lists::{
     Restart, act_create, act_import_restart_load, act_load_load, create_act_restart_load,

@@ -16,6 +16,8 @@ mod books;
 #[cfg(test)]
 mod creations;
 #[cfg(test)]
+mod headlines;
+#[cfg(test)]
 mod loads;
 #[cfg(test)]
 mod migrations;

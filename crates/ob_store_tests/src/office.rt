@@ -1,8 +1,12 @@
 //! The calls of a `Keeper` that the tests use.
 use crate::rows::put_rows;
+use crate::texts::shown_text;
 use ob_book::Book;
 use ob_command::{Command, read_body};
+use ob_headline::shown;
+use ob_index::Which;
 use ob_net::{Fault, Life, Ref, Refusal, Second, Stop};
+use ob_post::Dim;
 use ob_store::{Keeper, Reply};
 use ob_sweep::Windowed;
 use sqlite::{Connection, Error, MemStore};
@@ -56,6 +60,9 @@ pub trait Office: Drop {
 
     /// The totals, the indices and the annual table of the book, and the lives of its devices.
     fn texts(&self, alloc: Global) -> Result<Vec<u8>, Stop>;
+
+    /// The amount under a key, the total, SAIDI and the texts of the book, or `none`.
+    fn shows(&self, alloc: Global, dim: Dim, key: u16) -> Result<String, Stop>;
 
     /// Another `Keeper`, without a book, over the same tables after some statements.
     fn again(self, alloc: Global, sql: &str) -> Result<Self, Stop>;
@@ -167,6 +174,13 @@ impl Office for InMemory {
         match self.book() {
             Some(book) => texts_of(alloc, book),
             None => Err(REOPEN),
+        }
+    }
+
+    fn shows(&self, alloc: Global, dim: Dim, key: u16) -> Result<String, Stop> {
+        match shown(self, dim, key, Which::All) {
+            Ok(found) => Ok(shown_text(alloc, &found)?),
+            Err(stop) => Err(stop),
         }
     }
 

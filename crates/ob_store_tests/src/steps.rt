@@ -3,6 +3,7 @@ use crate::office::{InMemory, Office};
 use crate::rows::ROWS;
 use crate::texts::{answer_text, stored_text};
 use ob_net::Stop;
+use ob_post::Dim;
 use std::alloc::Global;
 use std::process::Abort;
 
@@ -30,6 +31,8 @@ pub enum Step {
     Migrate(Result<bool, Stop>),
     /// Checks whether there is a book.
     Has(bool),
+    /// Shows the book for a key: how the text begins, or `none`.
+    Show(Dim, u16, &'static str),
     /// Notes what the book shows, the stored replies and the lives of the devices.
     Note,
     /// Checks that all of these equal the noted ones.
@@ -184,6 +187,7 @@ fn is_answered<O: Office>(
         Step::Load(wanted) => Ok(office.loads() == *wanted),
         Step::Migrate(wanted) => Ok(office.migrates() == *wanted),
         Step::Has(wanted) => Ok(office.has_book() == *wanted),
+        Step::Show(dim, key, wanted) => Ok(office.shows(alloc, *dim, *key)?.starts_with(*wanted)),
         Step::Note => note(alloc, office, noted),
         Step::Same => is_same(alloc, office, noted),
         _ => Ok(true),

@@ -1,4 +1,5 @@
 //! The answer to a call, as a text of one line.
+use ob_headline::Shown;
 use ob_net::Stop;
 use ob_post::{Dim, Moved};
 use ob_store::Reply;
@@ -55,4 +56,27 @@ fn row_text(alloc: Global, row: &Moved) -> Result<String, AllocError> {
     };
     let (key, delta) = (row.key, row.delta);
     format!(in alloc; "{dim} {key} {delta}")
+}
+
+/// The amount under a key, the total and SAIDI, as `9000 of 9000, SAIDI 15/1`, and the three texts
+/// after it, each from a new line on; or `none`.
+pub fn shown_text(alloc: Global, shown: &Option<Shown>) -> Result<String, AllocError> {
+    match shown {
+        Some(shown) => figures_text(alloc, shown),
+        None => String::from_str(alloc, "none"),
+    }
+}
+
+fn figures_text(alloc: Global, shown: &Shown) -> Result<String, AllocError> {
+    let (amount, total) = (shown.amount, shown.total);
+    let mut text = format!(in alloc; "{amount} of {total}, SAIDI ")?;
+    if let Some(saidi) = shown.indices.saidi {
+        let (num, den) = (saidi.num(), saidi.den());
+        text.push_str(format!(in alloc; "{num}/{den}")?.as_str())?;
+    }
+    for line in [&shown.totals_text, &shown.annual_table, &shown.indices_text] {
+        text.push_str("\n")?;
+        text.push_str(&String::from_utf8_lossy(alloc, line.as_slice())?)?;
+    }
+    Ok(text)
 }

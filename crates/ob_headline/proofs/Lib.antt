@@ -1,0 +1,2 @@
+pub mod Headlines
+mod Example

@@ -1,0 +1,61 @@
+//! What is shown of a book after any list of calls.
+ghost use Rattle.std.specs.Prelude.{[], List, IfOk, IfSome};
+ghost use Rattle.ob_book.specs.Acts.{ActState};
+ghost use Rattle.ob_store.specs.Keepers.{IsClean, KeeperValue};
+ghost use Rattle.ob_lists.specs.Standing.{MayBe, Stands, Told};
+ghost use Rattle.ob_lists.specs.Going.{Goes};
+ghost use Rattle.ob_lists.specs.Headline.{IsShownAfter, LoadsAndShows};
+
+use crate::calls::load;
+use crate::laws::told_law;
+use ob_base::Stop;
+use ob_book::next_law;
+use ob_headline::{Shown, shown};
+use ob_index::Which;
+use ob_post::Dim;
+use ob_store::{Alter, Keeper};
+use ob_sweep::Timeline;
+
+/// Shows the book of a keeper after any list of calls that began with a book, such as a new one. What
+/// is shown is the headline of one book: the calls may have led to it, the keeper has it and its
+/// store keeps it, and it has each acknowledged command.
+pub fn show<S: Alter, T: Timeline>(
+    keeper: &Keeper<S, T>,
+    dim: Dim,
+    key: u16,
+    which: Which,
+) -> Result<Option<Shown>, Stop>
+    ensures { (b : ActState) (told : List Told) → Stands S.Store (MayBe b told) keeper.now
+        → IfOk result (λ shown. IfSome shown
+        (IsShownAfter S.Store b told keeper.now dim key which)) }
+{
+    next_law();
+    told_law();
+    shown(keeper, dim, key, which)
+}
+
+/// Loads the book after any list of calls, with crashes and openings between them, and shows it. A
+/// load finds a book, unless memory is refused, the store fails or the tables are of version 1; and
+/// what is shown is the headline of that book.
+pub fn load_and_show<R: Alter, S: Alter, T: Timeline>(
+    keeper: &mut Keeper<S, T>,
+    dim: Dim,
+    key: u16,
+    which: Which,
+) -> Result<Option<Shown>, Stop>
+    ensures shows { IsClean S.Store keeper.new → (b : ActState) (told : List Told)
+        → Stands S.Store (MayBe b told) keeper.old
+        → LoadsAndShows S.Store b told keeper.new dim key which result }
+    // from a keeper that had the book at first, by whatever calls, crashes and openings
+    ensures after { IsClean S.Store keeper.new → (b : ActState) (told : List Told)
+        (first : KeeperValue R) → Stands R.Store (MayBe b []) first
+        → Goes R.Store S.Store told first keeper.old
+        → LoadsAndShows S.Store b told keeper.new dim key which result }
+{
+    next_law();
+    told_law();
+    match load(keeper) {
+        Ok(()) => shown(keeper, dim, key, which),
+        Err(stop) => Err(stop),
+    }
+}
