@@ -1,0 +1,4 @@
+pub mod Services
+pub mod Blocks
+pub mod Handing
+pub mod Outages

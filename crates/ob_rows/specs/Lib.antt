@@ -1,2 +1,4 @@
+pub mod Services
 pub mod Rows
 pub mod Sinks
+pub mod Outages
