@@ -5,7 +5,7 @@ use Rattle.std.specs.Option.{option_and_then, option_map_or}
 use Rattle.std.proofs.lemmas.Bool.{cases_Bool, lt-ltb}
 use Rattle.std.proofs.lemmas.List.{length-map}
 use Rattle.std.proofs.lemmas.List.Sums.{count_by-le-length, length-filter}
-use Rattle.std.proofs.lemmas.List.Elements.{Contains-get_or}
+use Rattle.std.proofs.lemmas.List.Elements.{All-tail, Contains-get_or}
 use Rattle.std.proofs.lemmas.List.Folds.{flat_map-map}
 use Rattle.std.proofs.lemmas.List.FromFn.{length-range_with_len}
 use Rattle.ob_base.specs.Seconds.{IsLongest, intervals, interval_from, seconds, starts_at}
@@ -63,14 +63,22 @@ rows_of_parts b v feeder s (r ∷ runs) = elim (cases_Bool (has_second (part_of_
 ]
 
 -- a part with some second is one row
-pub some_row : (b : BookState) (v feeder : ℕ) (s : Service) (r : Run) (p : Interval) → p ≡ part_of_run v s r → p.since < p.until → rows_of_run b v feeder s r ≡ row_of b v feeder s p ∷ []
-some_row b v feeder s r p is some =
+pub some_row : (b : BookState) (v feeder : ℕ) (s : Service) (r : Run) (p : Interval) (row : InterruptionRow) → p ≡ part_of_run v s r → p.since < p.until → row ≡ row_of b v feeder s p → rows_of_run b v feeder s r ≡ row ∷ []
+some_row b v feeder s r p row is some same =
     let long : has_second (part_of_run v s r) ≡ true = sym (ap has_second is) ∙ lt-ltb p.since p.until some in
-    rw long (ap (λ (q : Interval). row_of b v feeder s q ∷ []) (sym is))
+    rw long (ap (λ (q : Interval). row_of b v feeder s q ∷ []) (sym is) ∙ ap (λ (q : InterruptionRow). q ∷ []) (sym same))
 
 same_pieces : {X A : Type 0} (f g : X → List A) (xs : List X) → ((x : X) → f x ≡ g x) → flat_map f xs ≡ flat_map g xs
 same_pieces f g [] same = refl
 same_pieces f g (x ∷ xs) same = ap₂ (λ (l m : List _). l ++ m) (same x) (same_pieces f g xs same)
+
+-- a section's blocks, each with its section's number
+pub of_own_section : (b : BookState) (v feeder : ℕ) (runs : List Run) (blocks : List SectionBlock) → All (λ c. c.section ≡ v) blocks
+    → flat_map (λ (c : SectionBlock). rows_of_block b c.section feeder runs c) blocks ≡ flat_map (rows_of_block b v feeder runs) blocks
+of_own_section b v feeder runs [] own = refl
+of_own_section b v feeder runs (c ∷ blocks) own =
+    ap₂ (λ (l m : List InterruptionRow). l ++ m) (ap (λ (w : ℕ). rows_of_block b w feeder runs c) (own 0 c (omega arith)))
+    (of_own_section b v feeder runs blocks (All-tail (λ (d : SectionBlock). d.section ≡ v) c blocks own))
 
 -- ---- the outage intervals of a section
 module _ (b : BookState) (lists : List (List Run)) (runs : AreRunsOf b lists) (v : ℕ) (section : IsSection b.network v) where

@@ -33,7 +33,7 @@ fn hand_node<T: Timeline, V: RowSink>(book: &Book<T>, node: u16, sink: &mut V) -
     ensures few { IfOk result (λ rows. rows ≤ 2 ^ 42) }
 {
     // This call's contract states how short the period is.
-    let _ = book.accepted();
+    let _ = book.period().length();
     let Some(feeder) = book.net().feeder_of(node) else {
         return Ok(0);
     };
