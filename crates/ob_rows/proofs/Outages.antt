@@ -41,7 +41,7 @@ starts_there test a b i x =
           rw here (elim (cases_Bool (i.since == a)) [ inl t ↦ rw t refl | inr f ↦ rw f off ])
     ]
 
-reaches : (test : ℕ → Bool) (n s : ℕ) → ((t : ℕ) → s ≤ t → t < s + n → test t ≡ true) → prefix_len test (range_with_len s n) ≡ n
+pub reaches : (test : ℕ → Bool) (n s : ℕ) → ((t : ℕ) → s ≤ t → t < s + n → test t ≡ true) → prefix_len test (range_with_len s n) ≡ n
 reaches test zero s h = refl
 reaches test (suc n) s h = rw (h s (omega arith) (omega arith)) (omega (arith, reaches test n (s + 1) (λ t l k. h t (omega arith) (omega arith))))
 

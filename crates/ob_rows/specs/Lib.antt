@@ -2,3 +2,4 @@ pub mod Services
 pub mod Rows
 pub mod Sinks
 pub mod Outages
+pub mod RowLaws
