@@ -1,0 +1,5 @@
+pub mod Services
+pub mod Rows
+pub mod Sinks
+pub mod Outages
+pub mod RowLaws
