@@ -70,10 +70,7 @@ fn export_from(alloc: Global, matches: &ArgMatches<'_>) -> Result<Option<Job>, A
     }
 }
 
-fn interruptions_from(
-    alloc: Global,
-    matches: &ArgMatches<'_>,
-) -> Result<Option<Job>, AllocError>
+fn interruptions_from(alloc: Global, matches: &ArgMatches<'_>) -> Result<Option<Job>, AllocError>
     ensures { IfOk result (λ r. r ≡ interruptions_job (rows_of (found_of matches.now))) }
 {
     let book = word_of(alloc, matches, "book")?;

@@ -1,2 +1,4 @@
+pub mod Moments
 pub mod Rows
+pub mod RowText
 pub mod Sinks

@@ -7,10 +7,13 @@
 //! program use this crate.
 #![tactic(auto)]
 
+mod moment;
 mod row;
 mod rows;
 mod sink;
+mod text;
 
 pub use row::InterruptionRow;
 pub use rows::each_row;
 pub use sink::RowSink;
+pub use text::line_of_row;
