@@ -1,1 +1,5 @@
 mod Dates
+pub mod Services
+pub mod Blocks
+pub mod Handing
+pub mod Outages

@@ -1,4 +1,6 @@
 pub mod Moments
+pub mod Services
 pub mod Rows
 pub mod RowText
 pub mod Sinks
+pub mod Outages

@@ -1,43 +1,20 @@
 -- Interruption rows: each interruption once for all customers of a section who have equal service.
-use Rattle.std.specs.Prelude.{ℕ, ◌*◌, ◌==◌, Bool, List, [], ◌∷◌, Option, map, length, if◌then◌else◌}
-use Rattle.std.specs.List.{filter, flat_map, count_by, sum_by, range_with_len}
+use Rattle.std.specs.Prelude.{ℕ, ◌*◌, Bool, List, [], Option, map, length}
+use Rattle.std.specs.List.{filter, flat_map, sum_by, range_with_len}
 use Rattle.std.specs.Option.{option_map_or, option_and_then}
-use Rattle.std.specs.declared.cmp.Ordering.{Ordering}
-use Rattle.std.specs.declared.cmp.Ordering.TheVariants.{Less, Equal, Greater}
 use Rattle.ob_base.specs.declared.interval.Interval.{Interval}
 use Rattle.ob_net.specs.Network.{home_feeder}
-use Rattle.ob_cust.specs.Blocks.{has_service, service_cmp}
 use Rattle.ob_cust.specs.declared.Customer.{Customer}
 use Rattle.ob_sweep.specs.Cutters.{cutter_at}
 use Rattle.ob_sweep.specs.Runs.{cause_at, history, start_of}
 use Rattle.ob_time.specs.Calendar.{first_second_of}
 use Rattle.ob_index.specs.Interruptions.{interruptions, is_marked, duration}
 use Rattle.ob_state.specs.State.{BookState}
+use Rattle.ob_rows.specs.Services.{Service, customers_with, services_of}
 use Rattle.ob_rows.specs.declared.row.InterruptionRow.{InterruptionRow}
 
--- a service before, beside or behind another one, by their order
-abbrev pub put_service_at : Ordering → ℕ × Option ℕ → ℕ × Option ℕ → List (ℕ × Option ℕ) → List (ℕ × Option ℕ) → List (ℕ × Option ℕ)
-put_service_at Less s t rest further = s ∷ t ∷ rest
-put_service_at Equal s t rest further = t ∷ rest
-put_service_at Greater s t rest further = t ∷ further
-
--- services in order, each once, with one more
-abbrev pub put_service : ℕ × Option ℕ → List (ℕ × Option ℕ) → List (ℕ × Option ℕ)
-put_service s [] = s ∷ []
-put_service s (t ∷ rest) = put_service_at (service_cmp s t) s t rest (put_service s rest)
-
--- the services that customers of a section have, each once, by since and then by until, where one without end comes first
-abbrev pub services_of : ℕ → List Customer → List (ℕ × Option ℕ)
-services_of section [] = []
-services_of section (c ∷ roll) =
-    if c.section == section then put_service (c.since, c.until) (services_of section roll) else services_of section roll
-
--- how many customers of a section have a service
-abbrev pub customers_with : List Customer → ℕ → ℕ × Option ℕ → ℕ
-customers_with roll section s = count_by (has_service section s.0 s.1) roll
-
 -- a customer of the section with the service; no interruption asks for its number
-abbrev pub customer_with : ℕ → ℕ × Option ℕ → Customer
+abbrev pub customer_with : ℕ → Service → Customer
 customer_with section s = record { «no» = 0; section = section; since = s.0; until = s.1 }
 
 -- the entry that cut off the outage interval of the section that holds the second; none where no entry did
@@ -49,7 +26,7 @@ abbrev pub posted_cause : BookState → ℕ → ℕ → ℕ
 posted_cause b v s = cause_at b.network b.entries (first_second_of b.period) v s
 
 -- the row of an interruption of the customers with a service of a section of this home feeder
-abbrev pub row_of : BookState → ℕ → ℕ → ℕ × Option ℕ → Interval → InterruptionRow
+abbrev pub row_of : BookState → ℕ → ℕ → Service → Interval → InterruptionRow
 row_of b v feeder s i = record {
   section = v;
   feeder = feeder;
@@ -64,7 +41,7 @@ row_of b v feeder s i = record {
 }
 
 -- the rows of the customers with one service, rising
-abbrev pub rows_of_service : BookState → ℕ → ℕ → ℕ × Option ℕ → List InterruptionRow
+abbrev pub rows_of_service : BookState → ℕ → ℕ → Service → List InterruptionRow
 rows_of_service b v feeder s = map (row_of b v feeder s) (interruptions b.network b.entries b.period (customer_with v s))
 
 -- the rows of a node's customers, service by service; none where it is no section

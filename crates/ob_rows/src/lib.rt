@@ -1,7 +1,8 @@
 //! Interruption rows: each interruption of a book once for all customers of a section who have equal
 //! service.
 //!
-//! Hands the rows of a book to a sink, one after another, without memory. Promises that the rows are
+//! Hands the rows of a book to a sink, one after another, without memory, and makes the line of a row
+//! in CSV. Promises that the rows are
 //! exactly the customers' interruptions, in order, each with its number of customers, its cause, the
 //! entry that cut the section off, and whether it begins on a major event day. `ob_jobs` and the
 //! program use this crate.
