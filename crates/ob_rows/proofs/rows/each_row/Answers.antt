@@ -19,8 +19,8 @@ returns-in_err-rows g c =
     let here : get_or (range_with_len 0 nodes) node 0 ≡ node = get_or-range_with_len 0 nodes node 0 (omega (arith, test, count)) ∙ zero-add node in
     record {
       hands = hands_failing g.V.RowSink.takes (rows_of_node state) (range_with_len 0 nodes) node 0 (omega (arith, test, count, length-range_with_len 0 nodes))
-      c.args.sink.now c.loop-node.sink c.hand_node.new.sink c.loop-node.rows fault c.from_residual.result (err_from c.from_residual.result fault c.from_residual.ensures.1)
-      c.loop-node.invariant.hands (subst (λ (v : ℕ). HandsRows g.V.RowSink.takes c.loop-node.sink c.hand_node.new.sink (rows_of_node state v) (Err fault)) (sym here) c.in_err-rows.ensures.hands)
+          c.args.sink.now c.loop-node.sink c.hand_node.new.sink c.loop-node.rows fault c.from_residual.result (err_from c.from_residual.result fault c.from_residual.ensures.1)
+          c.loop-node.invariant.hands (subst (λ (v : ℕ). HandsRows g.V.RowSink.takes c.loop-node.sink c.hand_node.new.sink (rows_of_node state v) (Err fault)) (sym here) c.in_err-rows.ensures.hands);
     }
 
 pub loop-node-preserved : goal.loop-node-preserved
@@ -35,8 +35,8 @@ loop-node-preserved g c =
     let some = c.in_ok-rows.ensures.few in
     record {
       hands = hands_more g.V.RowSink.takes (rows_of_node state) (range_with_len 0 nodes) node 0 (omega (arith, test, count, length-range_with_len 0 nodes))
-      c.args.sink.now c.loop-node.sink c.hand_node.new.sink c.loop-node.rows c.in_ok-rows.field-0 _ c.loop-node.invariant.hands
-      (subst (λ (v : ℕ). HandsRows g.V.RowSink.takes c.loop-node.sink c.hand_node.new.sink (rows_of_node state v) (Ok c.in_ok-rows.field-0)) (sym here) c.in_ok-rows.ensures.hands) refl;
+          c.args.sink.now c.loop-node.sink c.hand_node.new.sink c.loop-node.rows c.in_ok-rows.field-0 _ c.loop-node.invariant.hands
+          (subst (λ (v : ℕ). HandsRows g.V.RowSink.takes c.loop-node.sink c.hand_node.new.sink (rows_of_node state v) (Ok c.in_ok-rows.field-0)) (sym here) c.in_ok-rows.ensures.hands) refl;
       few = omega (arith, before, some);
     }
 
@@ -48,5 +48,5 @@ returns g c =
     let test = c.loop-node-test.false in
     record {
       hands = hands_all g.V.RowSink.takes (rows_of_node state) (range_with_len 0 nodes) c.loop-node.node c.args.sink.now c.loop-node.sink c.loop-node.rows
-      (omega (arith, test, count, length-range_with_len 0 nodes)) c.loop-node.invariant.hands
+          (omega (arith, test, count, length-range_with_len 0 nodes)) c.loop-node.invariant.hands;
     }

@@ -24,6 +24,6 @@ loop-run-preserved g c =
     let one = c.in_ok-rows.ensures.few in
     record {
       hands = hands_more g.V.RowSink.takes (rows_of_run c.args.book.now.state block.section c.args.feeder (service_of block.block)) c.args.runs.now c.loop-run.run-index absent c.loop-run-test.true
-      c.args.sink.now c.loop-run.sink c.hand_run.new.sink c.loop-run.rows c.in_ok-rows.field-0 _ c.loop-run.invariant.hands c.in_ok-rows.ensures.hands refl;
+          c.args.sink.now c.loop-run.sink c.hand_run.new.sink c.loop-run.rows c.in_ok-rows.field-0 _ c.loop-run.invariant.hands c.in_ok-rows.ensures.hands refl;
       few = omega (arith, before, one);
     }

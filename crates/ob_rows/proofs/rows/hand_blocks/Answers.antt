@@ -25,6 +25,6 @@ loop-block-preserved g c =
     let runs = c.requires.few_runs in
     record {
       hands = hands_more g.V.RowSink.takes (λ (b : SectionBlock). rows_of_block c.args.book.now.state b.section c.args.feeder c.args.runs.now b) c.args.blocks.now c.loop-block.block-index absent c.loop-block-test.true
-      c.args.sink.now c.loop-block.sink c.hand_block.new.sink c.loop-block.rows c.in_ok-rows.field-0 _ c.loop-block.invariant.hands c.in_ok-rows.ensures.hands refl;
+          c.args.sink.now c.loop-block.sink c.hand_block.new.sink c.loop-block.rows c.in_ok-rows.field-0 _ c.loop-block.invariant.hands c.in_ok-rows.ensures.hands refl;
       few = omega (arith, before, some, runs);
     }
