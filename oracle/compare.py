@@ -2,8 +2,8 @@
 
     python3 oracle/compare.py [--seeds N] [--program FILE]
 
-For each text: `init`, `import`, and the same import again; `table`, `export`, `audit`; every row of the eleven tables;
-and of books that aren't large `total`, of the network, the customers and the entries that the book has in the end. Then
+For each text: `init`, `import`, and the same import again; `table`, `export`, `interruptions`, `audit`; every row of the
+eleven tables; and of books that aren't large `total`, of the network, the customers and the entries that the book has in the end. Then
 the same books served (compare_streams.py), and books of version 1 (compare_old.py). All that is printed, the messages
 and the statuses have to be the model's. It ends with status 1 at the first difference; the text is then
 bench-data/difference.csv.
@@ -20,6 +20,7 @@ from pathlib import Path
 import compare_old
 import compare_streams
 from commands import HEADER, RowRefusal
+from interruptions import interruption_lines
 from make_commands import old_text_of, period_of, text_of
 from model import Book, first_difference, total_of
 from over_program import CREATED, PROGRAM, ROOT, SOUND, Difference, OneBook, PeriodWords, Said, first_of
@@ -44,13 +45,16 @@ def said_of(added: int, again: int, refusal: RowRefusal | None) -> Said:
 def wanted_of(book: Book, data: bytes) -> dict[str, object]:
     """What the program should answer, job by job."""
     imports = [said_of(*book.import_text(data)) for _ in range(2)]
-    lines = ["".join(f"{line}\n" for line in lines) for lines in [book.table_lines(), book.moves_lines()]]
+    rows = [*interruption_lines(book)]
+    lines = ["".join(f"{line}\n" for line in lines) for lines in [book.table_lines(), book.moves_lines(), rows]]
     return {
         "import": imports[0],
         "second import": imports[1],
         "table": (lines[0], "", 0),
         "export": (f"rows {len(book.moves)}\n", "", 0),
         "moves": lines[1],
+        "interruptions": (f"rows {len(rows) - 1}\n", "", 0),
+        "rows": lines[2],
         "audit": SOUND,
     }
 
@@ -60,10 +64,12 @@ def found_of(book: OneBook, period: PeriodWords, data: bytes) -> dict[str, objec
     created = book.create(period)
     if created != CREATED:
         return {"import": created}
-    moves = book.book.with_name("moves.csv")
+    moves, rows = book.book.with_name("moves.csv"), book.book.with_name("rows.csv")
     found: dict[str, object] = {"import": book.take(data), "second import": book.take(data), "table": book.run("table")}
     found["export"] = book.run("export", str(moves))
     found["moves"] = moves.read_text() if moves.exists() else None
+    found["interruptions"] = book.run("interruptions", str(rows))
+    found["rows"] = rows.read_text() if rows.exists() else None
     found["audit"] = book.run("audit")
     return found
 

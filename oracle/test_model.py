@@ -19,8 +19,9 @@ from pathlib import Path
 from commands import KINDS, NAMES, Refusal, RowRefusal, read_date, read_row, read_second
 from compare import FEEDER, FEEDER_YEAR
 from compare_old import OLD_FILES, book_of_file, was_old
+from interruptions import COLUMNS, interruption_lines, interruptions_of, moment_text
 from make_commands import calls_of, old_text_of, period_of
-from model import Book, Move, quotient, quotient_text
+from model import LONGEST_MOMENTARY, Book, Move, quotient, quotient_text, total_of
 from plans import SectionChange, intervals_of, plan_of
 from served import Request, answer_of
 from state import Period, midnight_of
@@ -324,6 +325,79 @@ class Outages(unittest.TestCase):
         self.assertEqual(book.tables()["life"], rows)
         self.assertEqual([*book.tables()][3:5], ["device", "life"])
         self.assertEqual(book.tables()["meta"], [(1, 2, "2024-01-01", 1, "UTC0")])
+
+
+class Interruptions(unittest.TestCase):
+    """The rows of interruptions: each once for all customers of a section who have equal service."""
+
+    def lines(self, book: Book) -> list[str]:
+        """The lines without the service, which customers have from T on."""
+        header, *lines = interruption_lines(book)
+        self.assertEqual(header, COLUMNS)
+        service = f"{moment_text(T)},,"
+        return [line.replace(service, "").replace("2024-01-01T", "").replace("Z", "") for line in lines]
+
+    def test_tie_restores_a_section(self) -> None:
+        book = base(lines=NETWORK + CUSTOMERS + TIE_RESTORES)
+        self.assertEqual(self.lines(book), ["S1,1,2,01:00:00,02:00:00,STORM,1,", "S2,1,3,01:00:00,01:10:00,STORM,1,"])
+        act(book, "correct 1 1 open +3600 4 K2\nmark 2024-01-01 ENG")
+        self.assertEqual(
+            self.lines(book), ["S1,1,2,01:00:00,02:00:00,PLANNED,1,yes", "S2,1,3,01:00:00,01:10:00,PLANNED,1,yes"]
+        )
+
+    def test_services(self) -> None:
+        """The order of services, an outage that begins before a service and one that ends after it."""
+        book = base(lines=NETWORK + f"connect 1 S1 +4000 +9000\nconnect 2 S1 +4000\nconnect 3 S1 {T}\n" + TIE_RESTORES)
+        act(book, "connect 4 S1 +4000\nrevise 3 +10 +5000")
+        rows = [
+            f"S1,1,{row.customers},{row.service},{row.since - T},{row.until - T},{row.cause},{row.entry}"
+            for row in interruptions_of(book)
+        ]
+        self.assertEqual(
+            rows,
+            [
+                f"S1,1,1,{(T + 10, T + 5000)},3600,5000,STORM,1",
+                f"S1,1,2,{(T + 4000, '-')},4000,7200,STORM,1",
+                f"S1,1,1,{(T + 4000, T + 9000)},4000,7200,STORM,1",
+            ],
+        )
+        ends = [line.split(",")[4] for line in interruption_lines(book)]
+        self.assertEqual(ends, ["service_until", moment_text(T + 5000), "", moment_text(T + 9000)])
+
+    def test_nobody_cut_it_off(self) -> None:
+        book = base(lines=f"section LONE 7\nconnect 1 LONE {T}\n")
+        self.assertEqual(self.lines(book), ["LONE,7,1,00:00:00,2024-01-02T00:00:00,UNASSIGNED,,"])
+        self.assertEqual(list(interruption_lines(base()))[1:], [])
+
+    def test_moments(self) -> None:
+        self.assertEqual(moment_text(0), "1970-01-01T00:00:00Z")
+        self.assertEqual(moment_text(951_782_399), "2000-02-28T23:59:59Z")
+        self.assertEqual(moment_text(99_999_999_999), "5138-11-16T09:46:39Z")
+
+    def test_rows_add_up(self) -> None:
+        """Over random books: customers times seconds are the amounts, and the counts are those of the indices."""
+        shown = 0
+        for seed in range(1, 61):
+            book = Book(Period(*period_of(seed)), keeps_moves=False)
+            for row in calls_of(seed):
+                with contextlib.suppress(Refusal):
+                    book.act(row)
+            rows = interruptions_of(book)
+            amounts = book.amounts()
+            self.assertEqual(sum(row.customers * (row.until - row.since) for row in rows), total_of(amounts, 1))
+            for code, name in book.causes.items():
+                of_cause = [row for row in rows if row.cause == name]
+                amount = sum(row.customers * (row.until - row.since) for row in of_cause)
+                self.assertEqual(amount, amounts.get((1, code), 0))
+            for is_unmarked in [False, True]:
+                counted = [row for row in rows if not (is_unmarked and row.is_marked)]
+                sustained = [row for row in counted if row.until - row.since > LONGEST_MOMENTARY]
+                ci, csi, _, momentary = book.counts(is_unmarked)
+                self.assertEqual(sum(row.customers for row in sustained), ci)
+                self.assertEqual(sum(row.customers * (row.until - row.since) for row in sustained), csi)
+                self.assertEqual(sum(row.customers for row in counted), ci + momentary)
+            shown += len(rows)
+        self.assertGreater(shown, 100)
 
 
 class Plans(unittest.TestCase):

@@ -3,7 +3,7 @@ _outagebook() {
     local current=${COMP_WORDS[COMP_CWORD]} before=${COMP_WORDS[COMP_CWORD-1]} subcommand= word options=
     for word in "${COMP_WORDS[@]:1:COMP_CWORD-1}"; do
         case $word in
-            total|init|import|export|table|audit|migrate|serve|help) subcommand=$word; break ;;
+            total|init|import|export|interruptions|table|audit|migrate|serve|help) subcommand=$word; break ;;
         esac
     done
     case $before in
@@ -11,16 +11,16 @@ _outagebook() {
         --first|--days|--zone|--port|--streams) COMPREPLY=(); return ;;
     esac
     case $subcommand in
-        '') options='total init import export table audit migrate serve help --help --version' ;;
+        '') options='total init import export interruptions table audit migrate serve help --help --version' ;;
         total) options='--help' ;;
         init) options='--book --first --days --zone --help' ;;
-        import|export) options='--book --help' ;;
+        import|export|interruptions) options='--book --help' ;;
         table|audit|migrate) options='--book --help' ;;
         serve) options='--book --port --streams --help' ;;
-        help) options='total init import export table audit migrate serve' ;;
+        help) options='total init import export interruptions table audit migrate serve' ;;
     esac
     COMPREPLY=($(compgen -W "$options" -- "$current"))
-    if [[ $subcommand == import || $subcommand == export ]] && [[ $current != -* ]]; then
+    if [[ $subcommand =~ ^(import|export|interruptions)$ ]] && [[ $current != -* ]]; then
         COMPREPLY+=($(compgen -f -- "$current"))
     fi
 }

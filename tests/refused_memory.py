@@ -2,8 +2,8 @@
 
     python3 tests/refused_memory.py [--program FILE] [--what memory|read|write ..] [--only JOB ..] [--first N] [--every N]
 
-The jobs: `init`, an import that a row stops, the changed text, `table`, `export`, `audit`. Each is run with its first request
-refused, with its second, and so on until a run meets none. A refused run has to end with status 1 and a line of a fault on
+The jobs: `init`, an import that a row stops, the changed text, `table`, `export`, `interruptions`, `audit`. Each is run with its
+first request refused, with its second, and so on until a run meets none. A refused run has to end with status 1 and a line of a fault on
 standard error, without counts, or as if nothing had been refused (but for its line on standard error, which may be what was
 refused). The book is whole then (`audit ok`, where there is one), and the same job again does what was left of it: no command is
 lost and none is there twice. All later jobs print what they print where nothing is refused, and in the end the rows of all eleven
@@ -38,6 +38,7 @@ JOBS = [
     ("import", "changed.csv"),
     ("table",),
     ("export", "moves.csv"),
+    ("interruptions", "interruptions.csv"),
     ("audit",),
 ]
 Said = tuple[str, str, int]  # printed, told, status
@@ -71,6 +72,11 @@ def rows_of(folder: Path) -> Rows:
         return {table: sorted(database.execute(f"SELECT * FROM {table}"), key=repr) for table in TABLES}
 
 
+def texts_of(folder: Path) -> str:
+    """What the jobs wrote into files."""
+    return "".join((folder / job[-1]).read_text() for job in JOBS if job[0] in ("export", "interruptions"))
+
+
 def wanted_again(job: Sequence[str], wanted: Said, found: Said) -> bool:
     """Whether the same job, after its refused run, was answered as it should be."""
     if job[0] == "init":
@@ -101,7 +107,7 @@ def goes_on(
     for later in range(place + 1, len(JOBS)):
         if (found := run(program, folder, JOBS[later])[0]) != wanted[later]:
             raise Wrong(f"answered {first}, then {' '.join(JOBS[later])}: {found}")
-    if (rows_of(folder), (folder / "moves.csv").read_text()) != end:
+    if (rows_of(folder), texts_of(folder)) != end:
         raise Wrong(f"answered {first}, and in the end other rows")
     return "as if nothing were refused" if done else first[1].strip()
 
@@ -115,7 +121,7 @@ def refuse_each(program: Path, library: Path, what: str, words: argparse.Namespa
     for place, job in enumerate(JOBS):
         states.append(shutil.copytree(start, work / f"before-{place}"))
         wanted.append(run(program, start, job)[0])
-    end = rows_of(start), (start / "moves.csv").read_text()
+    end = rows_of(start), texts_of(start)
     for place, job in enumerate(JOBS):
         if words.only and job[0] not in words.only:
             continue
@@ -132,7 +138,7 @@ def refuse_each(program: Path, library: Path, what: str, words: argparse.Namespa
             told[answer] += 1
         answers = ", ".join(f"{runs} {answer}" for answer, runs in sorted(told.items()))
         print(
-            f"| {what} | {job[0]} {job[-1] if job[0] in ('import', 'export') else ''} | {sum(told.values())} | {answers} |",
+            f"| {what} | {job[0]} {job[-1] if len(job) == 2 else ''} | {sum(told.values())} | {answers} |",
             flush=True,
         )
 

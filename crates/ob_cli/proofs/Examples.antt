@@ -5,7 +5,7 @@ use Rattle.clap.specs.Walk.{walked}
 use Rattle.clap.specs.Words.{Text}
 use Rattle.clap.specs.declared.error.kind.ErrorKind.TheVariants as kind
 use Rattle.ob_cli.specs.Jobs.{errors_of, job_of}
-use Rattle.ob_cli.specs.declared.job.Job.TheVariants.{Total, Init, Import, Table, Audit, Migrate, Serve}
+use Rattle.ob_cli.specs.declared.job.Job.TheVariants.{Total, Init, Import, Interruptions, Table, Audit, Migrate, Serve}
 
 total_is_a_job : job_of (codes "outagebook" ∷ codes "total" ∷ []) ≡ Some Total
 unfolding defaults_fault walk_fault walked
@@ -68,6 +68,15 @@ import_of_a_file = refl
 export_wants_a_file : errors_of (codes "outagebook" ∷ codes "export" ∷ []) ≡ kind.MissingRequiredArgument ∷ []
 unfolding defaults_fault walk_fault walked
 export_wants_a_file = refl
+
+interruptions_into_a_file : job_of (codes "outagebook" ∷ codes "interruptions" ∷ codes "--book=a.db" ∷ codes "rows.csv" ∷ [])
+    ≡ Some (Interruptions (codes "a.db") (codes "rows.csv"))
+unfolding defaults_fault walk_fault walked
+interruptions_into_a_file = refl
+
+interruptions_want_a_file : errors_of (codes "outagebook" ∷ codes "interruptions" ∷ []) ≡ kind.MissingRequiredArgument ∷ []
+unfolding defaults_fault walk_fault walked
+interruptions_want_a_file = refl
 
 -- `serve` with these words
 abbrev serve_words : List Text → List Text

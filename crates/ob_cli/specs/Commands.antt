@@ -70,6 +70,10 @@ import_app = with_rule (over_book (codes "import")) (word_rule (codes "INPUT"))
 abbrev pub export_app : App
 export_app = with_rule (over_book (codes "export")) (word_rule (codes "OUTPUT"))
 
+-- `interruptions --book FILE OUTPUT`
+abbrev pub interruptions_app : App
+interruptions_app = with_rule (over_book (codes "interruptions")) (word_rule (codes "OUTPUT"))
+
 -- how many streams are served where the words name no number: none is no bound
 abbrev pub default_streams : Text
 default_streams = codes "0"
@@ -92,4 +96,4 @@ with_subcommands a (s ∷ rest) = with_subcommands (with_subcommand a s.top) res
 -- the command line of the program
 abbrev pub outagebook_app : App
 outagebook_app = with_subcommands bare_app
-    (total_app ∷ init_app ∷ import_app ∷ export_app ∷ table_app ∷ audit_app ∷ migrate_app ∷ serve_app ∷ [])
+    (total_app ∷ init_app ∷ import_app ∷ export_app ∷ interruptions_app ∷ table_app ∷ audit_app ∷ migrate_app ∷ serve_app ∷ [])

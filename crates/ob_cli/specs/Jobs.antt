@@ -8,7 +8,7 @@ use Rattle.ob_base.specs.declared.stop.Fault.TheVariants.{OutOfMemory}
 use Rattle.ob_cli.specs.Commands.{outagebook_app}
 use Rattle.ob_cli.specs.Values.{with_count, with_number, with_word}
 use Rattle.ob_cli.specs.declared.job.Job.{Job}
-use Rattle.ob_cli.specs.declared.job.Job.TheVariants.{Total, Init, Import, Export, Table, Audit, Migrate, Serve}
+use Rattle.ob_cli.specs.declared.job.Job.TheVariants.{Total, Init, Import, Export, Interruptions, Table, Audit, Migrate, Serve}
 use Rattle.ob_cli.specs.declared.read.WrongWords.{WrongWords}
 use Rattle.ob_cli.specs.declared.read.WrongWords.TheVariants as wrong
 
@@ -23,6 +23,10 @@ import_job rows = with_word (codes "book") rows (λ book. with_word (codes "INPU
 
 abbrev pub export_job : List Row → Option Job
 export_job rows = with_word (codes "book") rows (λ book. with_word (codes "OUTPUT") rows (λ output. Some (Export book output)))
+
+abbrev pub interruptions_job : List Row → Option Job
+interruptions_job rows =
+    with_word (codes "book") rows (λ book. with_word (codes "OUTPUT") rows (λ output. Some (Interruptions book output)))
 
 abbrev pub table_job : List Row → Option Job
 table_job rows = with_word (codes "book") rows (λ book. Some (Table book))
@@ -44,6 +48,7 @@ job_named p =
     else if bytes_eq p.0 (codes "init") then init_job p.1
     else if bytes_eq p.0 (codes "import") then import_job p.1
     else if bytes_eq p.0 (codes "export") then export_job p.1
+    else if bytes_eq p.0 (codes "interruptions") then interruptions_job p.1
     else if bytes_eq p.0 (codes "table") then table_job p.1
     else if bytes_eq p.0 (codes "audit") then audit_job p.1
     else if bytes_eq p.0 (codes "migrate") then migrate_job p.1

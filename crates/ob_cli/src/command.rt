@@ -3,7 +3,7 @@ ghost use Rattle.std.specs.Prelude.{◌≡◌, IfOk, codes, false};
 ghost use Rattle.clap.specs.Words.{app_of, rule_of};
 ghost use Rattle.clap.specs.declared.builder.command.Command.TheViews.{out-Command};
 ghost use Rattle.ob_cli.specs.Commands.{audit_app, bare_app, book_rule, count_rule, default_streams, export_app};
-ghost use Rattle.ob_cli.specs.Commands.{import_app, init_app, migrate_app, number_rule, outagebook_app, over_book, required_rule};
+ghost use Rattle.ob_cli.specs.Commands.{import_app, init_app, interruptions_app, migrate_app, number_rule, outagebook_app, over_book, required_rule};
 ghost use Rattle.ob_cli.specs.Commands.{serve_app, table_app, total_app, word_rule};
 
 use clap::{Arg, Command, value_parser};
@@ -113,6 +113,18 @@ fn export_command<'a>(alloc: Global) -> Result<Command<'a>, AllocError>
     .arg(file_word(alloc, "OUTPUT", "The CSV file to write"))
 }
 
+fn interruptions_command<'a>(alloc: Global) -> Result<Command<'a>, AllocError>
+    ensures app { IfOk result (λ c. app_of c ≡ interruptions_app) }
+    ensures local { IfOk result (λ c. (out-Command c).has_globals ≡ false) }
+{
+    book_command(
+        alloc,
+        "interruptions",
+        "Writes the interruptions of a book's customers as CSV",
+    )?
+    .arg(file_word(alloc, "OUTPUT", "The CSV file to write"))
+}
+
 fn table_command<'a>(alloc: Global) -> Result<Command<'a>, AllocError>
     ensures app { IfOk result (λ c. app_of c ≡ table_app) }
     ensures local { IfOk result (λ c. (out-Command c).has_globals ≡ false) }
@@ -180,6 +192,7 @@ pub(crate) fn outagebook_command<'a>(alloc: Global) -> Result<Command<'a>, Alloc
         .subcommand(init_command(alloc)?)?
         .subcommand(import_command(alloc)?)?
         .subcommand(export_command(alloc)?)?
+        .subcommand(interruptions_command(alloc)?)?
         .subcommand(table_command(alloc)?)?
         .subcommand(audit_command(alloc)?)?
         .subcommand(migrate_command(alloc)?)?

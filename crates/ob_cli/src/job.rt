@@ -63,6 +63,13 @@ pub enum Job {
         /// The file to write, which replaces a file of that name.
         output: Word,
     },
+    /// Writes the interruptions of a book's customers into a CSV file.
+    Interruptions {
+        /// The book's file.
+        book: Word,
+        /// The file to write, which replaces a file of that name.
+        output: Word,
+    },
     /// Prints the annual table of a book.
     Table {
         /// The book's file.

@@ -1,7 +1,7 @@
 //! Reads the job from the matches of a subcommand.
 ghost use Rattle.std.specs.Prelude.{◌≡◌, IfOk, option_and_then};
 ghost use Rattle.clap.specs.Words.{first_of, found_of, rows_of, subcommand_rows_of};
-ghost use Rattle.ob_cli.specs.Jobs.{audit_job, export_job, import_job, init_job, job_named, migrate_job, serve_job, table_job};
+ghost use Rattle.ob_cli.specs.Jobs.{audit_job, export_job, import_job, init_job, interruptions_job, job_named, migrate_job, serve_job, table_job};
 ghost use Rattle.ob_cli.specs.Values.{count_given, number_given};
 
 use crate::job::{Job, Word};
@@ -70,6 +70,17 @@ fn export_from(alloc: Global, matches: &ArgMatches<'_>) -> Result<Option<Job>, A
     }
 }
 
+fn interruptions_from(alloc: Global, matches: &ArgMatches<'_>) -> Result<Option<Job>, AllocError>
+    ensures { IfOk result (λ r. r ≡ interruptions_job (rows_of (found_of matches.now))) }
+{
+    let book = word_of(alloc, matches, "book")?;
+    let output = word_of(alloc, matches, "OUTPUT")?;
+    match (book, output) {
+        (Some(book), Some(output)) => Ok(Some(Job::Interruptions { book, output })),
+        _ => Ok(None),
+    }
+}
+
 fn table_from(alloc: Global, matches: &ArgMatches<'_>) -> Result<Option<Job>, AllocError>
     ensures { IfOk result (λ r. r ≡ table_job (rows_of (found_of matches.now))) }
 {
@@ -121,6 +132,7 @@ fn job_from(alloc: Global, name: &str, matches: &ArgMatches<'_>) -> Result<Optio
         "init" => init_from(alloc, matches),
         "import" => import_from(alloc, matches),
         "export" => export_from(alloc, matches),
+        "interruptions" => interruptions_from(alloc, matches),
         "table" => table_from(alloc, matches),
         "audit" => audit_from(alloc, matches),
         "migrate" => migrate_from(alloc, matches),

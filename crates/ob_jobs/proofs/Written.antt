@@ -22,11 +22,11 @@ use Rattle.ob_jobs.specs.declared.lines.Lines.{Lines}
 use Rattle.ob_jobs.specs.Text.{lines_of, moved_line}
 use Rattle.ob_jobs.specs.Exporting.{AppendsPart, PutsLine, Exports}
 
-nothing : (bytes : Option (List ℕ)) → Appends bytes bytes []
+pub nothing : (bytes : Option (List ℕ)) → Appends bytes bytes []
 nothing None = tt
 nothing (Some xs) = sym (append-nil xs)
 
-take_drop : (n : ℕ) (xs : List ℕ) → xs ≡ take n xs ++ drop n xs
+pub take_drop : (n : ℕ) (xs : List ℕ) → xs ≡ take n xs ++ drop n xs
 take_drop zero xs = refl
 take_drop (suc n) [] = refl
 take_drop (suc n) (x ∷ xs) = ap (λ l. x ∷ l) (take_drop n xs)
@@ -35,7 +35,7 @@ lines_append : (xs ys : List Numbered) → lines_of (xs ++ ys) ≡ lines_of xs +
 lines_append xs ys = flat_map-append (λ (x : Numbered). moved_line x.0 x.1) xs ys
 
 -- a first part behind a head is a first part
-headed_part : (was mid is : Option (List ℕ)) (head text : List ℕ) → Appends was mid head → AppendsPart mid is text → AppendsPart was is (head ++ text)
+pub headed_part : (was mid is : Option (List ℕ)) (head text : List ℕ) → Appends was mid head → AppendsPart mid is text → AppendsPart was is (head ++ text)
 headed_part was mid is head text headed it = record {
   front = head ++ it.front;
   rest = it.rest;

@@ -13,6 +13,7 @@ use Rattle.ob_jobs.specs.Lines.{audit_line, created_line, migrate_line}
 use Rattle.ob_jobs.specs.Loads.{AuditOf, LoadsThen, OpensThen, TakesThen}
 use Rattle.ob_jobs.specs.Making.{MakingOf}
 use Rattle.ob_jobs.specs.Migrations.{MigrationOf}
+use Rattle.ob_jobs.specs.Rows.{TellsRows}
 use Rattle.ob_jobs.specs.Tabling.{HasTable, table_text}
 use Rattle.ob_jobs.specs.Telling.{Tells}
 
@@ -73,6 +74,22 @@ module _ {S : Type 0} (g : Ghosts S) where
       → KeeperValue S → KeeperValue S → A → A → Watched W → Watched W → Result ⊤ Unfinished → Type 0
   ExportsFromBook opens filled contents old new was is before after result =
       EndsAs job_end (LoadsThen g (λ mid done. ExportsOutput opens filled contents mid new was is before after done)
+      ((is ≡ was) × (after ≡ before)) old new) result
+
+  -- the book is loaded, then the output is made anew, and the book's interruption rows are written into it; the book stays as
+  -- it was loaded
+  abbrev pub WritesOutput : {A F W : Type 0} → (A → Option F → A → Type 0) → (F → Option (List ℕ)) → (W → Option (List ℕ))
+      → KeeperValue S → A → A → Watched W → Watched W → Result ℕ Stop → Type 0
+  WritesOutput {A} {F} opens filled contents mid was is before after done =
+      OpensThen opens Output
+      (λ opened done. (left : Watched F) × TellsRows filled contents mid.book opened left before after done)
+      (after ≡ before) was is done
+
+  abbrev pub WritesRowsOfBook : {A F W : Type 0} → (A → Option F → A → Type 0) → (F → Option (List ℕ)) → (W → Option (List ℕ))
+      → KeeperValue S → KeeperValue S → A → A → Watched W → Watched W → Result ⊤ Unfinished → Type 0
+  WritesRowsOfBook opens filled contents old new was is before after result =
+      EndsAs job_end (LoadsThen g
+      (λ mid done. (new ≡ mid) × WritesOutput opens filled contents mid was is before after done)
       ((is ≡ was) × (after ≡ before)) old new) result
 
   -- the book is loaded, then the port is taken, and then the book is served there

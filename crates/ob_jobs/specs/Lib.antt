@@ -11,3 +11,4 @@ pub mod Endings
 pub mod Books
 pub mod Exporting
 pub mod Text
+pub mod Rows

@@ -4,7 +4,7 @@ use Rattle.ob_base.specs.declared.stop.Stop.{Stop}
 use Rattle.ob_stream.specs.declared.watched.Watched.{Watched}
 use Rattle.ob_store.specs.Keepers.{Ghosts, KeeperValue}
 use Rattle.ob_cli.specs.declared.status.Unfinished.{Unfinished}
-use Rattle.ob_jobs.specs.Books.{AuditsBook, ExportsFromBook, ImportsIntoBook, MakesBook, MigratesBook, PrintsBook, ServesBook}
+use Rattle.ob_jobs.specs.Books.{AuditsBook, ExportsFromBook, ImportsIntoBook, MakesBook, MigratesBook, PrintsBook, ServesBook, WritesRowsOfBook}
 use Rattle.ob_jobs.specs.declared.tasks.Task.{Task}
 use Rattle.ob_jobs.specs.declared.tasks.Task.TheVariants as tasks
 
@@ -35,6 +35,8 @@ module _ {S I R O F V Q W : Type 0} (g : Ghosts S)
       (is : I) × ImportsIntoBook g opens remaining contents old new was is before after result
   RunsTask (tasks.Export was) old new before after result =
       (is : O) × ExportsFromBook g makes filled contents old new was is before after result
+  RunsTask (tasks.Interruptions was) old new before after result =
+      (is : O) × WritesRowsOfBook g makes filled contents old new was is before after result
   RunsTask tasks.Table old new before after result = PrintsBook g contents old new before after result
   RunsTask tasks.Audit old new before after result = AuditsBook g contents old new before after result
   RunsTask tasks.Migrate old new before after result = MigratesBook g contents old new before after result

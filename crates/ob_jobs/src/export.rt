@@ -69,8 +69,8 @@ fn export_rows<F: Write, S: Alter, T: Timeline>(
     export_moves(alloc, keeper, file)
 }
 
-/// The line with the number of changes that were written.
-fn line_of(alloc: Global, rows: u64) -> Result<String, AllocError>
+/// The line with the number of rows that were written.
+pub(crate) fn line_of(alloc: Global, rows: u64) -> Result<String, AllocError>
     ensures { IfOk result (λ line. string_bytes line ≡ export_line rows) }
 {
     format!(in alloc; "rows {rows}\n")

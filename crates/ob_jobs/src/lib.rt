@@ -1,5 +1,5 @@
-//! The program's jobs on a book: create one, import commands, export the changes of amounts, print
-//! the annual table, audit, migrate and serve it.
+//! The program's jobs on a book: create one, import commands, export the changes of amounts, write
+//! the customers' interruptions, print the annual table, audit, migrate and serve it.
 //!
 //! Has two public functions for each job. One does its work on a keeper; `ob_import` has that of an
 //! import. The other first loads the book if the work needs it, and only then opens the input or
@@ -13,11 +13,13 @@ mod ending;
 mod export;
 mod import;
 mod init;
+mod interruptions;
 mod line;
 mod lines;
 mod migrate;
 mod moves;
 mod opening;
+mod row_lines;
 mod serve;
 mod table;
 mod tasks;
@@ -27,6 +29,7 @@ pub use audit::{audit_book, run_audit};
 pub use export::{export_from_book, run_export};
 pub use import::import_into_book;
 pub use init::{make_book, run_init};
+pub use interruptions::{interruptions_from_book, run_interruptions};
 pub use migrate::{migrate_book, run_migrate};
 pub use moves::export_moves;
 pub use ob_import::{Progress, Silent, Work};

@@ -20,7 +20,7 @@ pub trait OpenInput {
         ensures { opens self.old result self.new };
 }
 
-/// The output of an export, not created yet.
+/// The output of a job, not created yet.
 pub trait OpenOutput {
     ghost use Rattle.std.specs.Prelude.{Option};
 

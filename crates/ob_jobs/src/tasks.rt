@@ -4,7 +4,8 @@ ghost use Rattle.ob_jobs.specs.Tasks.{RunsTask, makes_book, may_write};
 
 use crate::opening::{OpenInput, OpenOutput, ServeBook};
 use crate::{
-    audit_book, export_from_book, import_into_book, make_book, migrate_book, print_book, serve_book,
+    audit_book, export_from_book, import_into_book, interruptions_from_book, make_book,
+    migrate_book, print_book, serve_book,
 };
 use ob_cli::Unfinished;
 use ob_import::Progress;
@@ -30,6 +31,8 @@ pub enum Task<'w, I, O, V> {
     Import(I),
     /// Writes the changes of amounts that the commands made into an output.
     Export(O),
+    /// Writes the interruptions of the book's customers into an output.
+    Interruptions(O),
     /// Prints the annual table.
     Table,
     /// Compares the tables with the commands.
@@ -49,6 +52,7 @@ impl<I, O, V> Task<'_, I, O, V> {
             Task::Init { .. } => true,
             Task::Import(_)
             | Task::Export(_)
+            | Task::Interruptions(_)
             | Task::Table
             | Task::Audit
             | Task::Migrate
@@ -62,7 +66,7 @@ impl<I, O, V> Task<'_, I, O, V> {
     {
         match self {
             Task::Init { .. } | Task::Import(_) | Task::Migrate | Task::Serve(_) => true,
-            Task::Export(_) | Task::Table | Task::Audit => false,
+            Task::Export(_) | Task::Interruptions(_) | Task::Table | Task::Audit => false,
         }
     }
 }
@@ -90,6 +94,9 @@ pub fn run_task<
         Task::Init { first, days, zone } => make_book(keeper, first, days, zone, writer),
         Task::Import(mut input) => import_into_book(alloc, keeper, &mut input, progress, writer),
         Task::Export(mut output) => export_from_book(alloc, keeper, &mut output, progress, writer),
+        Task::Interruptions(mut output) => {
+            interruptions_from_book(alloc, keeper, &mut output, progress, writer)
+        }
         Task::Table => print_book(keeper, progress, writer),
         Task::Audit => audit_book(alloc, keeper, writer),
         Task::Migrate => migrate_book(keeper, writer),

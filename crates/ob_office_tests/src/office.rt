@@ -1,14 +1,14 @@
 //! The calls of a `Keeper` that the tests use, and the trials that use them.
 use crate::jobs::calls::{
-    Ask, Told, audits, exports, imports, lacks_export, lacks_import, lacks_table, makes, migrates,
-    prints, serves,
+    Ask, Told, audits, exports, imports, lacks_export, lacks_import, lacks_list, lacks_table,
+    lists, makes, migrates, prints, serves,
 };
 use crate::sinks::Shelf;
-use ob_harness::{Sink, Source};
+use ob_harness::{Sink, Source, WHOLE};
 use ob_import::{
     ImportFault, ImportReport, Progress, Work, import, import_text, import_with_progress,
 };
-use ob_jobs::export_moves;
+use ob_jobs::{export_moves, run_interruptions};
 use ob_net::{Stop, Watched};
 use ob_store::Keeper;
 use ob_sweep::{Timeline, Windowed};
@@ -22,7 +22,7 @@ pub type Report = Result<ImportReport, ImportFault>;
 /// The first day of a book, how many days it has, and its zone.
 pub type Period = (&'static str, u16, &'static str);
 
-/// The answer to an export, and the bytes that its writer has taken.
+/// The answer to a job that writes rows, and the bytes that its writer has taken.
 #[derive(Drop)]
 pub struct Written {
     pub end: Result<u64, Stop>,
@@ -81,6 +81,9 @@ pub trait Office {
 
     /// Exports to a writer.
     fn writes(&mut self, alloc: Global, sink: Sink) -> Written;
+
+    /// Writes the interruptions to a writer.
+    fn lists(&self, alloc: Global, sink: Sink) -> Written;
 
     /// Answers whether there is a book.
     fn has_book(&self) -> bool;
@@ -149,6 +152,16 @@ impl<S: Alter, T: Timeline> Office for Keeper<S, T> {
         }
     }
 
+    fn lists(&self, alloc: Global, sink: Sink) -> Written {
+        let mut file = Watched::new(sink);
+        let mut told = Watched::new(Sink::new(alloc, 100, WHOLE));
+        let end = run_interruptions(alloc, self, &mut file, &mut told);
+        Written {
+            end,
+            bytes: file.into_parts().0.taken,
+        }
+    }
+
     fn has_book(&self) -> bool {
         self.book().is_some()
     }
@@ -159,6 +172,7 @@ impl<S: Alter, T: Timeline> Office for Keeper<S, T> {
             Ask::Make(days) => makes(self, &("2024-01-01", days, "UTC0"), writer),
             Ask::Import(text) => imports(alloc, self, text, writer),
             Ask::Export(room) => exports(alloc, self, room, writer),
+            Ask::Interruptions(room) => lists(alloc, self, room, writer),
             Ask::Print => prints(self, writer),
             Ask::Audit => audits(alloc, self, writer),
             Ask::Migrate => migrates(self, writer),
@@ -167,7 +181,10 @@ impl<S: Alter, T: Timeline> Office for Keeper<S, T> {
     }
 
     fn lacks_book(&mut self, alloc: Global) -> bool {
-        lacks_import(alloc, self) && lacks_export(alloc, self) && lacks_table(alloc, self)
+        lacks_import(alloc, self)
+            && lacks_export(alloc, self)
+            && lacks_list(alloc, self)
+            && lacks_table(alloc, self)
     }
 }
 

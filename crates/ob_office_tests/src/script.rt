@@ -1,5 +1,6 @@
 //! Steps with a `Keeper`, one after another, and the answer to each.
 use crate::exports::{always_breaks_off, are_handed, are_told, breaks_off};
+use crate::interruptions::list_always_breaks_off;
 use crate::office::{Heard, Office, Period, Report, Trial, over};
 use crate::refusals::is_refused;
 use crate::sinks::WIDE;
@@ -72,6 +73,11 @@ pub enum Step {
     Break(Way, &'static str, usize),
     /// Checks the same with room for each number of bytes.
     BreakAlways(Way, &'static str),
+    /// Writes the interruptions, with this answer and this text.
+    List(Result<u64, Stop>, &'static str),
+    /// Checks that writing the interruptions in this way to a writer with room for each number of
+    /// bytes of this text breaks off.
+    BreakList(Way, &'static str),
     /// Gives the moves of the outage with its correction to sinks with room for each number of them.
     Hands,
     /// Checks that the stored replies have these moves.
@@ -117,6 +123,11 @@ fn holds<O: Office>(alloc: Global, office: &mut O, by_reader: bool, step: &Step)
         },
         Step::Break(way, text, room) => breaks_off(alloc, office, *way, text.as_bytes(), *room),
         Step::BreakAlways(way, text) => always_breaks_off(alloc, office, *way, text.as_bytes()),
+        Step::List(end, text) => {
+            let written = office.lists(alloc, Sink::new(alloc, WIDE, WHOLE));
+            written.end == *end && written.bytes.as_slice() == text.as_bytes()
+        }
+        Step::BreakList(way, text) => list_always_breaks_off(alloc, office, *way, text.as_bytes()),
         Step::Hands => are_handed(alloc, office),
         Step::Replies => are_told(alloc, office),
         Step::Rows(_) => true,

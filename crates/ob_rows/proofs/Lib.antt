@@ -1,3 +1,4 @@
+mod Dates
 pub mod Services
 pub mod Blocks
 pub mod Handing

@@ -28,6 +28,9 @@ fn told(alloc: Global, job: &Job) -> Result<String, AllocError> {
         }
         Job::Import { book, input } => two_words(alloc, "import", book.as_str(), input.as_str()),
         Job::Export { book, output } => two_words(alloc, "export", book.as_str(), output.as_str()),
+        Job::Interruptions { book, output } => {
+            two_words(alloc, "interruptions", book.as_str(), output.as_str())
+        }
         Job::Table { book } => two_words(alloc, "table", book.as_str(), "-"),
         Job::Audit { book } => two_words(alloc, "audit", book.as_str(), "-"),
         Job::Migrate { book } => two_words(alloc, "migrate", book.as_str(), "-"),
@@ -53,6 +56,8 @@ outagebook init --first 2026-01-01 --days 31 --zone EST5 => init book.db 2026-01
 outagebook init --zone=EST5 --days=65535 --book=a.db --first=2026-01-01 => init a.db 2026-01-01 65535 EST5
 outagebook import rows.csv => import book.db rows.csv
 outagebook export --book a.db moves.csv => export a.db moves.csv
+outagebook interruptions rows.csv => interruptions book.db rows.csv
+outagebook interruptions --book a.db rows.csv => interruptions a.db rows.csv
 outagebook table => table book.db -
 outagebook audit => audit book.db -
 outagebook audit --book=büch.db => audit büch.db -
@@ -83,6 +88,8 @@ outagebook table --version => Usage: outagebook
 outagebook version => Usage: outagebook
 outagebook --book=a.db table => Usage: outagebook
 outagebook table a.db => Usage: outagebook
+outagebook interruptions => <OUTPUT>
+outagebook interruptions a.csv b.csv => Usage: outagebook
 outagebook audit --days=1 => Usage: outagebook
 outagebook migrate a.db => Usage: outagebook
 outagebook table --book=a --book=b => --book <FILE>
@@ -111,6 +118,8 @@ outagebook --help => total
 outagebook --help => init
 outagebook -h => table
 outagebook help => audit
+outagebook help => Writes the interruptions of a book's customers as CSV
+outagebook help interruptions => The CSV file to write
 outagebook help => Makes a book of version 1 one of version 2
 outagebook help total => total
 outagebook total --help => total

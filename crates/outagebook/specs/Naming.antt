@@ -16,6 +16,7 @@ module _ {B E : Type 0} where
       (on ≡ book) × (start.now ≡ first) × (count ≡ days) × (rule.now ≡ zone)
   DoesJob (jobs.Import book input) on (tasks.Import file) = (on ≡ book) × (file.path.now ≡ input)
   DoesJob (jobs.Export book output) on (tasks.Export file) = (on ≡ book) × (file.path.now ≡ output)
+  DoesJob (jobs.Interruptions book output) on (tasks.Interruptions file) = (on ≡ book) × (file.path.now ≡ output)
   DoesJob (jobs.Table book) on tasks.Table = on ≡ book
   DoesJob (jobs.Audit book) on tasks.Audit = on ≡ book
   DoesJob (jobs.Migrate book) on tasks.Migrate = on ≡ book

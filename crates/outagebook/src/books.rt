@@ -107,7 +107,7 @@ impl OpenInput for InputFile<'_> {
     }
 }
 
-/// The output of an export, by its path.
+/// The output of a job, by its path.
 #[derive(Drop)]
 pub(crate) struct OutputFile<'f> {
     pub(crate) rt: &'f HostRuntime,

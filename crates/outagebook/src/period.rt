@@ -22,6 +22,7 @@ pub(crate) fn begin<I, O, V>(
         Task::Init { first, days, zone } => look_at_period(alloc, first, *days, zone),
         Task::Import(_)
         | Task::Export(_)
+        | Task::Interruptions(_)
         | Task::Table
         | Task::Audit
         | Task::Migrate

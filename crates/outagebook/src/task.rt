@@ -34,6 +34,9 @@ pub(crate) fn task_of<'w>(rt: &'w HostRuntime, job: &'w Job) -> Option<BookTask<
         }
         Job::Import { book, input } => (book, Task::Import(InputFile { rt, path: input })),
         Job::Export { book, output } => (book, Task::Export(OutputFile { rt, path: output })),
+        Job::Interruptions { book, output } => {
+            (book, Task::Interruptions(OutputFile { rt, path: output }))
+        }
         Job::Table { book } => (book, Task::Table),
         Job::Audit { book } => (book, Task::Audit),
         Job::Migrate { book } => (book, Task::Migrate),

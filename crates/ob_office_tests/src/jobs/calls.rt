@@ -7,8 +7,8 @@ use ob_harness::texts::OUTAGE;
 use ob_harness::{FULL, Sink, Source, WHOLE};
 use ob_import::import_with_progress;
 use ob_jobs::{
-    Silent, audit_book, export_from_book, import_into_book, make_book, migrate_book, print_book,
-    run_export, run_table, serve_book,
+    Silent, audit_book, export_from_book, import_into_book, interruptions_from_book, make_book,
+    migrate_book, print_book, run_export, run_interruptions, run_table, serve_book,
 };
 use ob_store::Keeper;
 use ob_stream::Watched;
@@ -25,6 +25,8 @@ pub enum Ask {
     Import(Option<&'static str>),
     /// Writes the moved amounts into an output with this much room, or one that can't be made.
     Export(Option<usize>),
+    /// Writes the interruptions into an output with this much room, or one that can't be made.
+    Interruptions(Option<usize>),
     /// Prints the annual table.
     Print,
     /// Compares the tables.
@@ -103,6 +105,22 @@ pub fn exports<S: Alter, T: Timeline>(
     ended_as(&run, writer, output.tried)
 }
 
+/// Writes the interruptions into an output with this much room, or one that can't be made.
+pub fn lists<S: Alter, T: Timeline>(
+    alloc: Global,
+    keeper: &mut Keeper<S, T>,
+    room: Option<usize>,
+    mut writer: Watched<Sink>,
+) -> Told {
+    let mut output = Output {
+        alloc,
+        room,
+        tried: false,
+    };
+    let run = interruptions_from_book(alloc, keeper, &mut output, &mut Silent, &mut writer);
+    ended_as(&run, writer, output.tried)
+}
+
 /// Prints the annual table.
 pub fn prints<S: Alter, T: Timeline>(keeper: &mut Keeper<S, T>, mut writer: Watched<Sink>) -> Told {
     let run = print_book(keeper, &mut Silent, &mut writer);
@@ -153,6 +171,16 @@ pub fn lacks_export<S: Alter, T: Timeline>(alloc: Global, keeper: &mut Keeper<S,
     let mut told = Watched::new(Sink::new(alloc, 100, FULL));
     let mut file = Watched::new(Sink::new(alloc, 100, FULL));
     let run = run_export(alloc, keeper, &mut file, &mut told);
+    let is_silent = told.into_parts().0.taken.is_empty() && file.into_parts().0.taken.is_empty();
+    run == Err(REOPEN) && is_silent
+}
+
+/// Answers whether the job of interruptions stops because there is no book, and prints and writes
+/// nothing.
+pub fn lacks_list<S: Alter, T: Timeline>(alloc: Global, keeper: &Keeper<S, T>) -> bool {
+    let mut told = Watched::new(Sink::new(alloc, 100, FULL));
+    let mut file = Watched::new(Sink::new(alloc, 100, FULL));
+    let run = run_interruptions(alloc, keeper, &mut file, &mut told);
     let is_silent = told.into_parts().0.taken.is_empty() && file.into_parts().0.taken.is_empty();
     run == Err(REOPEN) && is_silent
 }

@@ -85,6 +85,7 @@ const JOBS: &[(Ask, &'static str)] = &[
     (Ask::Import(Some(OUTAGE)), "added "),
     (Ask::Import(Some(OUTAGE)), "added 0 again 25\n"),
     (Ask::Export(Some(4_000)), "rows 9\n"),
+    (Ask::Interruptions(Some(4_000)), "rows 2\n"),
     (Ask::Print, "OUTAGE BOOK 2024-01-01 days 1 zone UTC0\n"),
     (Ask::Serve(true), ""),
     (Ask::Audit, "audit ok\n"),

@@ -12,6 +12,7 @@ const WRITERS: &[Step] = &[
     Step::BreakAlways(Ask::Audit, "audit ok\n"),
     Step::BreakAlways(Ask::Import(Some(OUTAGE)), "added 0 again 25\n"),
     Step::BreakAlways(Ask::Export(Some(4_000)), "rows 9\n"),
+    Step::BreakAlways(Ask::Interruptions(Some(4_000)), "rows 2\n"),
     Step::BreakAlways(Ask::Print, "OUTAGE BOOK 2024-01-01 days 1 zone UTC0\n"),
     Step::BreakAlways(Ask::Migrate, "version 2\n"),
     SOUND,

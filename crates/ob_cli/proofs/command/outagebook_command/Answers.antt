@@ -17,12 +17,14 @@ returns c =
     ∙ ap₂ with_subcommand two (ap top c.in_ok-import_command.ensures.app) in
     let four = c.in_ok-subcommand-4.ensures.shape c.in_ok-export_command.ensures.local
     ∙ ap₂ with_subcommand three (ap top c.in_ok-export_command.ensures.app) in
-    let five = c.in_ok-subcommand-5.ensures.shape c.in_ok-table_command.ensures.local
-    ∙ ap₂ with_subcommand four (ap top c.in_ok-table_command.ensures.app) in
-    let six = c.in_ok-subcommand-6.ensures.shape c.in_ok-audit_command.ensures.local
-    ∙ ap₂ with_subcommand five (ap top c.in_ok-audit_command.ensures.app) in
-    let seven = c.in_ok-subcommand-7.ensures.shape c.in_ok-migrate_command.ensures.local
-    ∙ ap₂ with_subcommand six (ap top c.in_ok-migrate_command.ensures.app) in
-    IfOk-weaker c.subcommand-8.result _ _
+    let five = c.in_ok-subcommand-5.ensures.shape c.in_ok-interruptions_command.ensures.local
+    ∙ ap₂ with_subcommand four (ap top c.in_ok-interruptions_command.ensures.app) in
+    let six = c.in_ok-subcommand-6.ensures.shape c.in_ok-table_command.ensures.local
+    ∙ ap₂ with_subcommand five (ap top c.in_ok-table_command.ensures.app) in
+    let seven = c.in_ok-subcommand-7.ensures.shape c.in_ok-audit_command.ensures.local
+    ∙ ap₂ with_subcommand six (ap top c.in_ok-audit_command.ensures.app) in
+    let eight = c.in_ok-subcommand-8.ensures.shape c.in_ok-migrate_command.ensures.local
+    ∙ ap₂ with_subcommand seven (ap top c.in_ok-migrate_command.ensures.app) in
+    IfOk-weaker c.subcommand-9.result _ _
     (λ r h. h.shape c.in_ok-serve_command.ensures.local
-    ∙ ap₂ with_subcommand seven (ap top c.in_ok-serve_command.ensures.app)) c.subcommand-8.ensures
+    ∙ ap₂ with_subcommand eight (ap top c.in_ok-serve_command.ensures.app)) c.subcommand-9.ensures
