@@ -89,7 +89,7 @@ def facts(found: Checked) -> Iterator[Line]:
     note = f"marked: {marked}" if marked else "no day is marked: the figures without such days are those of all days"
     yield Line("major event days", "days", len(book.marks), PROGRAM, note)
     yield Line(
-        "customers served, on average", "customers", served, PROGRAM, "S / P of the annual table" if served else ""
+        "customers served on average", "customers", served, PROGRAM, "S / P of the annual table" if served else ""
     )
 
 
@@ -135,7 +135,7 @@ def eia_861(found: Checked, groups: Groups | None) -> Iterator[Line]:
     for which, of in zip(SETS, ("with major event days", "without major event days")):
         for index in indices:
             yield index_line(index, of, said_by_program(found, index, which), PROGRAM)
-    of, supply = "with major event days, minus loss of supply", codes_of(groups, LOSS_OF_SUPPLY)
+    of, supply = "with major event days minus loss of supply", codes_of(groups, LOSS_OF_SUPPLY)
     if supply:
         rates = rates_of(found, lambda cause: cause not in supply, "all")
         yield from rate_lines(rates, indices, of, f"without the causes {names_of(found, supply)}")

@@ -50,28 +50,26 @@ class Eia(unittest.TestCase):
     def test_without_a_list_loss_of_supply_is_empty_and_told(self) -> None:
         rows = rows_of(support.fortnight(), "eia861")
         for index in ("SAIDI", "SAIFI", "CAIDI"):
-            row = rows[f"{index} with major event days, minus loss of supply"]
+            row = rows[f"{index} with major event days minus loss of supply"]
             self.assertEqual((row["value"], row["from"]), ("", NOWHERE))
             self.assertIn("--causes FILE", row["note"])
 
     def test_a_list_without_the_group_is_told(self) -> None:
         made = support.fortnight()
         rows = rows_of(made, "eia861", groups_of(made, "PLANNED,planned"))
-        self.assertIn(
-            "has no group 'loss of supply'", rows["SAIDI with major event days, minus loss of supply"]["note"]
-        )
+        self.assertIn("has no group 'loss of supply'", rows["SAIDI with major event days minus loss of supply"]["note"])
 
     def test_loss_of_supply_removed(self) -> None:
         """What docs/use/STANDARDS.md shows of the fortnight without SUPPLIER."""
         made = support.fortnight()
         rows = rows_of(made, "eia861", groups_of(made, "SUPPLIER,Loss of supply"))
-        found = [words_of(rows[f"{index} with major event days, minus loss of supply"]) for index in ("SAIFI", "SAIDI")]
+        found = [words_of(rows[f"{index} with major event days minus loss of supply"]) for index in ("SAIFI", "SAIDI")]
         self.assertEqual(found, ["19430/10493 1.852", "3960035/20986 188.699"])
-        self.assertEqual(rows["SAIFI with major event days, minus loss of supply"]["from"], TOOL)
+        self.assertEqual(rows["SAIFI with major event days minus loss of supply"]["from"], TOOL)
 
     def test_customers_and_days(self) -> None:
         rows = rows_of(support.fortnight(), "eia861")
-        self.assertEqual(words_of(rows["customers served, on average"]), "10493/335 31.322")
+        self.assertEqual(words_of(rows["customers served on average"]), "10493/335 31.322")
         self.assertEqual(rows["number of customers"]["value"], "31")
         self.assertEqual(
             (rows["major event days"]["value"], rows["major event days"]["note"]), ("1", "marked: 2025-03-30")

@@ -243,11 +243,10 @@ def made_again(pack: Path, manifest: Manifest, program: str, found: Findings) ->
             return
         except BookError as error:
             found.notes.append(f"not made again: {error}")
-            return
-        files = tool_files(order)
+        files = [file for file in tool_files(order) if (Path(name) / file).exists()]
         differ = [file for file in files if not same_bytes(pack / file, Path(name) / file)]
     is_same = (here.tools_sum, here.python) == (versions.tools_sum, versions.python)
-    is_same = is_same and version_of_writer() in about["made_with"]
+    is_same = is_same and (WORKBOOK not in files or version_of_writer() in about["made_with"])
     same = [file for file in files if file not in differ]
     if same:
         found.holds.append(f"made again, byte for byte: {', '.join(same)}")
