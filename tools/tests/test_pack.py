@@ -99,7 +99,7 @@ def without_last_row(path: Path) -> None:
 FORGED: dict[str, tuple[str, Callable[[Path], None]]] = {
     "a figure of the table": ("table.txt", replaced("194.126", "194.127")),
     "an amount that moved": ("moves.csv", replaced(",-", ",-1")),
-    "another cause of a command": ("commands.csv", replaced("WIND", "WINE")),
+    "another cause of a command": ("commands.csv", replaced("TREE", "TRAE")),
     "a command left out": ("commands.csv", without_last_row),
     "the seconds of an interruption": ("interruptions.csv", replaced(",54000,", ",54001,")),
     "an interruption left out": ("interruptions.csv", without_last_row),
@@ -222,7 +222,7 @@ class ChangedBytes(unittest.TestCase):
         pack(whole)
         data = whole.read_bytes()
         start = data.rindex(b"PK\x01\x02", 0, len(data)) - 1_000
-        for place in [*range(0, 60), *range(100, start, len(data) // 60), *range(start, len(data), 7)]:
+        for place in [*range(0, 60, 2), *range(100, start, len(data) // 40), *range(start, len(data), 9)]:
             path.write_bytes(data)
             flip(path, place)
             try:
@@ -291,10 +291,16 @@ class Forged(unittest.TestCase):
             {"table.txt", "moves.csv", "commands.csv", "interruptions.csv", "workbook.xlsx", "report.html"}, set(wrong)
         )
 
-    def test_commands_that_a_fresh_book_counts_otherwise(self) -> None:
+    def test_commands_in_another_order(self) -> None:
+        """Each of them is the book's, so only a replay finds without the same tools that a fresh book moves otherwise."""
         folder = copied("replay")
-        replaced("WIND", "WINE")(folder / "commands.csv")
-        self.assertIn("commands.csv", wrong_in(with_right_sums(folder), has_replay=True))
+        head, *rows = (folder / "commands.csv").read_text().splitlines(keepends=True)
+        places = [place for place, row in enumerate(rows) if row.startswith("switch,OUT-0325-")]
+        rows[places[0]], rows[places[1]] = rows[places[1]], rows[places[0]]
+        (folder / "commands.csv").write_text("".join([head, *rows]))
+        forged = with_right_sums(folder, tools_sha256="0" * 64)
+        self.assertEqual(wrong_in(forged), {})
+        self.assertEqual(set(wrong_in(forged, has_replay=True)), {"commands.csv"})
 
 
 class Parts(unittest.TestCase):

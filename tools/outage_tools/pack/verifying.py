@@ -288,6 +288,10 @@ def verify(path: Path, program: str, has_replay: bool) -> Findings:
     found = Findings()
     with opened(path) as (pack, damaged):
         found.wrong += damaged
+        if not (pack / NAME).exists():
+            if damaged:
+                return found
+            raise BookError(f"{path} is no pack: it has no {NAME}")
         try:
             manifest = read_manifest(pack / NAME)
         except Changed as changed:

@@ -1,13 +1,14 @@
 """A book's figures as a workbook of spreadsheets (XLSX), and filings.
 
     outagebook-workbook BOOK -o FILE.xlsx [--filing eia861|ceer ..] [--above N] [--causes FILE] [--names FILE] [--by FILE]
-                        [--ticket RULE] [--hours H ..] [--kva FILE] [--name NAME] [--date DATE] [--table FILE | --program PATH]
+                        [--earlier BOOK] [--ticket RULE] [--hours H ..] [--kva FILE] [--name NAME] [--date DATE] [--table FILE | --program PATH]
     outagebook-workbook BOOK --filing eia861|ceer [--causes FILE]
 
 Without -o the lines of one filing are printed as CSV. docs/use/FILING.md says what the sheets have.
 """
 
 from argparse import ArgumentTypeError, Namespace
+from contextlib import ExitStack
 from pathlib import Path
 
 from outage_tools import indices as further
@@ -42,11 +43,12 @@ def add_sheet_arguments(parser: Parser) -> None:
     )
     add_list_arguments(parser)
     parser.add_argument("--by", metavar="FILE", help="a CSV of section and group: the indices of groups of sections")
+    parser.add_argument("--earlier", metavar="BOOK", help="the book of the year before, for the ranks of its feeders")
     parser.add_argument("--hours", nargs="+", type=further.read_hours, metavar="H", help="the hours of CELID")
     parser.add_argument("--kva", metavar="FILE", help="connected kVA by section or customer, for ASIFI and ASIDI")
 
 
-def wanted_by(found: Checked, args: Namespace) -> Wanted:
+def wanted_by(found: Checked, args: Namespace, earlier: Checked | None) -> Wanted:
     """What the words of the command line ask for, with the lists read."""
     book = found.book
     return Wanted(
@@ -60,6 +62,7 @@ def wanted_by(found: Checked, args: Namespace) -> Wanted:
         loads=further.loads_of(args.kva, book, found.database) if args.kva else None,
         least=args.above,
         filings=tuple(dict.fromkeys(args.filing)),
+        earlier=earlier,
     )
 
 
@@ -82,8 +85,11 @@ def main() -> int:
         parser.error(f"-o {args.output}: a workbook's name ends with .xlsx")
 
     def job() -> None:
-        with open_book(args.book, args.table, args.program) as found:
-            wanted = wanted_by(found, args)
+        with ExitStack() as books:
+            found = books.enter_context(open_book(args.book, args.table, args.program))
+            has_earlier = args.earlier is not None
+            earlier = books.enter_context(open_book(args.earlier, None, args.program)) if has_earlier else None
+            wanted = wanted_by(found, args, earlier)
             if args.output is None:
                 write_csv(filing(found, args.filing[0], wanted.cause_groups))
                 return

@@ -43,6 +43,7 @@ class Wanted:
     loads: Loads | None = None
     least: int | None = None  # sustained interruptions of the customers that are listed by number
     filings: Sequence[str] = field(default_factory=tuple)
+    earlier: Checked | None = None  # the book of the year before, for the ranks of feeders
 
 
 def named(shown: Figures, found: Checked, wanted: Wanted) -> Figures:
@@ -63,6 +64,7 @@ def figure_sheets(found: Checked, wanted: Wanted) -> Iterator[Sheet]:
     shown: dict[str, Callable[[], Figures]] = {
         "months": lambda: figures.months(found),
         "feeders": lambda: figures.feeders(found),
+        "ranking": lambda: figures.ranking(found, wanted.earlier),
         "causes": lambda: figures.causes(found),
         "days": lambda: figures.days(found),
         "sections": lambda: figures.sections(found),
