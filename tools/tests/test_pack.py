@@ -310,11 +310,15 @@ class Parts(unittest.TestCase):
         path = support.folder() / "small" / NAME
         path.parent.mkdir(exist_ok=True)
         (path.parent / "a.txt").write_text("a")
-        manifest = Manifest({"program": "outagebook 2", "asked": {"name": "Ün"}}, packed(path.parent))
+        about = {name: "" for name in ("period", "program", "program_sha256", "tools_sha256", "made_with")}
+        manifest = Manifest({**about, "asked": {"name": "Ün"}}, packed(path.parent))
         path.write_text(manifest.text())
         self.assertEqual(read_manifest(path), manifest)
         self.assertEqual(list(differing(path.parent, manifest)), [])
         self.assertEqual(manifest.files["a.txt"].bytes, 1)
+        path.write_text(Manifest({"program": "outagebook 2"}).text())
+        with self.assertRaisesRegex(BookError, "a form that is not known"):
+            read_manifest(path)
         other = Manifest(manifest.about, {"a.txt": Packed(2, "0" * 64)})
         self.assertEqual(list(differing(path.parent, other)), [("a.txt", "it has 1 bytes, in the manifest 2")])
 

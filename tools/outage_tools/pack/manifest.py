@@ -13,6 +13,7 @@ from outage_tools.versions import sum_of
 
 NAME = "manifest.json"
 FORM = 1
+ABOUT = {"period", "program", "program_sha256", "tools_sha256", "made_with", "asked"}  # what each manifest says
 OWN_SUM = re.compile(r',\n "manifest_sha256": "([0-9a-f]{64})"\n}\n\Z')
 END = "\n}\n"
 
@@ -60,11 +61,14 @@ def read_manifest(path: Path) -> Manifest:
         raise Changed("it doesn't end with its own sum")
     if own_sum(text[: end.start()] + END) != end[1]:
         raise Changed("its own sum is another one")
-    about = json.loads(text)
-    if about.pop("pack") != FORM:
-        raise BookError(f"{path} is of a form that is not known here")
-    del about["manifest_sha256"]
-    files = {name: Packed(each["bytes"], each["sha256"]) for name, each in about.pop("files").items()}
+    try:
+        about = json.loads(text)
+        if about.pop("pack") != FORM or not ABOUT <= about.keys():
+            raise BookError(f"{path} is of a form that is not known here")
+        del about["manifest_sha256"]
+        files = {name: Packed(each["bytes"], each["sha256"]) for name, each in about.pop("files").items()}
+    except (KeyError, TypeError, ValueError, AttributeError) as error:
+        raise BookError(f"{path} can't be read as a manifest: {error!r}") from None
     return Manifest(about, files)
 
 

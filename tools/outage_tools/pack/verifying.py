@@ -21,11 +21,13 @@ from outage_tools.cli import Parser, print_error, run_job
 from outage_tools.compare import figures_of_table, open_book
 from outage_tools.counts import SETS, decimal_text, index_decimals
 from outage_tools.errors import BookError, Differs
+from outage_tools.filings import FILINGS
 from outage_tools.pack.archive import same_bytes, unpack, write_zip, zlib_version
 from outage_tools.pack.files import (
     BOOK,
     COMMANDS,
     INTERRUPTIONS,
+    LISTS,
     MOVES,
     REPORT,
     TABLE,
@@ -226,6 +228,8 @@ def compare_figures(pack: Path, table: str, found: Findings) -> None:
 
 def order_of(manifest: Manifest) -> Order:
     asked = manifest.about["asked"]
+    if not set(asked["lists"]) <= set(LISTS) or not set(asked["filings"]) <= FILINGS.keys():
+        raise BookError(f"{NAME} asks for lists or filings that are not known here: {asked}")
     return Order(asked["name"], asked["date"], asked["filings"], asked["above"], asked["lists"])
 
 

@@ -8,7 +8,6 @@ from outage_tools.forms import Figures, Value
 
 MOST_ROWS = 1_048_575  # of a sheet, below the line of the columns' names
 LONGEST_TEXT = 32_767  # characters of a cell
-LONGEST_NAME = 31  # characters of a sheet's name
 DECIMALS = re.compile(r"[0-9]+\.[0-9]+")
 
 
