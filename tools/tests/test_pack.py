@@ -92,6 +92,14 @@ def with_another_saidi(path: Path) -> None:
     other.replace(path)
 
 
+def with_another_row(path: Path) -> None:
+    """A workbook that has other customer-seconds of an interruption than the pack's rows."""
+    other = path.with_name("other.xlsx")
+    changed(path, other, lambda name, text: text.replace("<v>54000</v>", "<v>54060</v>") if "sheet" in name else text)
+    assert other.read_bytes() != path.read_bytes()
+    other.replace(path)
+
+
 def without_last_row(path: Path) -> None:
     path.write_text("".join(path.read_text().splitlines(keepends=True)[:-1]))
 
@@ -105,6 +113,7 @@ FORGED: dict[str, tuple[str, Callable[[Path], None]]] = {
     "an interruption left out": ("interruptions.csv", without_last_row),
     "another class": ("interruptions.csv", replaced(",sustained,", ",momentary,")),
     "an index of the workbook": ("workbook.xlsx", with_another_saidi),
+    "a row of the workbook": ("workbook.xlsx", with_another_row),
     "an index of the report": ("report.html", replaced("<b>194.126</b>", "<b>194.127</b>")),
     "a fraction of the report": ("report.html", replaced("4073935/20986", "4073936/20986")),
 }

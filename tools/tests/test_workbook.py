@@ -10,6 +10,7 @@ from pathlib import Path
 from outage_tools import figures
 from outage_tools.above import customers_above
 from outage_tools.counts import decimal_text, quotient
+from outage_tools.errors import BookError
 from outage_tools.versions import Made
 from outage_tools.workbook import Wanted, sheets_of, write_workbook
 from outage_tools.workbook.reading import Grid, Read, read_workbook
@@ -153,6 +154,13 @@ class Shapes(unittest.TestCase):
         self.assertEqual(shortened(whole), whole)
         self.assertEqual(len(shortened(whole + "y")), LONGEST_TEXT)
         self.assertIn(f"({LONGEST_TEXT + 1} characters in all", shortened(whole + "y"))
+
+    def test_what_a_sheet_cannot_hold_is_refused(self) -> None:
+        """A cell that XlsxWriter would leave out in silence ends the run."""
+        sheet = Sheet("wide", [], ["a"] * 16_384, [[1] * 16_385])
+        with self.assertRaisesRegex(BookError, "sheet wide: row 2, column 16385 can't hold '1'"):
+            write_workbook(support.folder() / "wide.xlsx", [sheet], "wide")
+        self.assertFalse((support.folder() / "wide.xlsx").exists())
 
     def test_parts(self) -> None:
         sheet = Sheet("rows", [], ["a"], [[number] for number in range(5)])

@@ -15,6 +15,7 @@ from collections.abc import Callable, Iterator
 from contextlib import closing, contextmanager
 from dataclasses import dataclass, field
 from fractions import Fraction
+from itertools import zip_longest
 from pathlib import Path
 
 from outage_tools.cli import Parser, print_error, run_job
@@ -42,10 +43,11 @@ from outage_tools.pack.files import (
 )
 from outage_tools.pack.manifest import NAME, Changed, Manifest, differing, read_manifest
 from outage_tools.versions import Made, made_by, sum_of
-from outage_tools.workbook.reading import read_workbook
+from outage_tools.workbook.reading import Grid, read_workbook
 from outage_tools.workbook.writing import version_of_writer
 
 STATUS_DIFFERS = 2
+OF_ROWS = re.compile(r"interruptions( [0-9]+)?")  # the sheets of interruptions
 OF_REPORT = re.compile(r'<tr><td><strong>([A-Z0-9-]+)</strong></td>((?:<td data-set="[a-z]+">.*?</td>)+)')
 OF_SET = re.compile(r'<td data-set="([a-z]+)"><b>([^<]*)</b>(?: <span class="fraction">([^<]*)</span>)?</td>')
 
@@ -100,17 +102,34 @@ def compare_shown(shown: dict[str, tuple[str, str]], table: dict[str, str]) -> s
     return None
 
 
-def workbook_shows(path: Path) -> dict[str, tuple[str, str]]:
-    """The program's indices in a workbook."""
-    head, *rows = read_workbook(path)["indices"]
-    places = {cell.text: place for place, cell in enumerate(head)}
-    found: dict[str, tuple[str, str]] = {}
-    for row in rows:
-        texts = [cell.text for cell in row] + [""] * (len(head) - len(row))
-        if texts[places["from"]] == "program":
-            which = f"{texts[places['index']]} {texts[places['set']]}"
-            found[which] = texts[places["value"]], texts[places["value, exact"]]
-    return found
+def rows_of_sheet(grid: Grid) -> Iterator[dict[str, str]]:
+    """The rows of a sheet by the names of its columns."""
+    head, *rows = ([cell.text for cell in row] for row in grid)
+    return (dict(zip(head, row + [""] * (len(head) - len(row)))) for row in rows)
+
+
+def workbook_differs(path: Path, rows: Path | None, table: dict[str, str]) -> str | None:
+    """Whether a workbook has the program's indices, and the same interruptions as a file of rows: what it hasn't."""
+    grids = read_workbook(path)
+    found = {
+        f"{row['index']} {row['set']}": (row["value"], row["value, exact"])
+        for row in rows_of_sheet(grids["indices"])
+        if row["from"] == "program"
+    }
+    here = (row for name, grid in grids.items() if OF_ROWS.fullmatch(name) for row in rows_of_sheet(grid))
+    row = None if rows is None else first_other_row(here, rows)
+    return (
+        compare_shown(found, table) if row is None else f"row {row} of its interruptions isn't that of {INTERRUPTIONS}"
+    )
+
+
+def first_other_row(here: Iterator[dict[str, str]], rows: Path) -> int | None:
+    """The number of the first row of a sheet that isn't that of a file of rows."""
+    with rows.open(newline="", encoding="utf-8") as file:
+        for number, (shown, wanted) in enumerate(zip_longest(here, csv.DictReader(file)), 1):
+            if not shown or not wanted or any(shown.get(name) != text for name, text in wanted.items()):
+                return number
+    return None
 
 
 def report_shows(path: Path) -> dict[str, tuple[str, str]]:
@@ -203,27 +222,26 @@ def replay(pack: Path, manifest: Manifest, program: str, found: Findings) -> Non
 
 
 def compare_figures(pack: Path, table: str, found: Findings) -> None:
-    """The indices that the files show are the program's."""
+    """The rows give the program's counts, and the indices that the files show are the program's."""
     words = words_of_table(table)
-    looks: dict[str, tuple[str, Callable[[], str | None]]] = {
-        INTERRUPTIONS: (
-            "its rows give the program's counts, W and SAIDI",
-            lambda: rows_differ(pack / INTERRUPTIONS, table),
-        ),
-        WORKBOOK: (
-            f"its {len(words)} indices and counts are the program's",
-            lambda: compare_shown(workbook_shows(pack / WORKBOOK), words),
-        ),
-        REPORT: (
-            f"its {len(words)} indices and counts are the program's",
-            lambda: compare_shown(report_shows(pack / REPORT), words),
-        ),
-    }
-    for name, (ok, look) in looks.items():
-        try:
-            found.say(name, ok, look())
-        except (KeyError, ValueError, IndexError, UnicodeDecodeError, csv.Error, BookError) as error:
-            found.wrong.append((name, f"its figures can't be read: {error!r}"))
+    ok = f"its {len(words)} indices and counts are the program's"
+    look(
+        found,
+        INTERRUPTIONS,
+        "its rows give the program's counts, W and SAIDI",
+        lambda: rows_differ(pack / INTERRUPTIONS, table),
+    )
+    rows = None if INTERRUPTIONS in dict(found.wrong) else pack / INTERRUPTIONS
+    look(found, WORKBOOK, ok, lambda: workbook_differs(pack / WORKBOOK, rows, words))
+    look(found, REPORT, ok, lambda: compare_shown(report_shows(pack / REPORT), words))
+
+
+def look(found: Findings, name: str, ok: str, differs: Callable[[], str | None]) -> None:
+    """Reads a file's figures; a file that can't be read is named too."""
+    try:
+        found.say(name, ok, differs())
+    except (KeyError, ValueError, IndexError, UnicodeDecodeError, csv.Error, BookError) as error:
+        found.wrong.append((name, f"its figures can't be read: {error!r}"))
 
 
 def order_of(manifest: Manifest) -> Order:

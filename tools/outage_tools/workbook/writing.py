@@ -13,7 +13,12 @@ from outage_tools.errors import BookError
 from outage_tools.workbook.sheets import Cell, Decimal, Formula, Sheet, shortened, widths_of
 
 FIXED = datetime(1980, 1, 1)
-OPTIONS = {"constant_memory": True, "strings_to_numbers": False, "strings_to_formulas": False, "strings_to_urls": False}
+OPTIONS: dict[str, Any] = {
+    "constant_memory": True,
+    "strings_to_numbers": False,
+    "strings_to_formulas": False,
+    "strings_to_urls": False,
+}
 TEXT, WHOLE = "@", "0"
 
 
@@ -52,15 +57,19 @@ def shape_of(places: int) -> str:
 
 
 def write_cell(page: Any, row: int, column: int, cell: Cell, formats: Formats) -> None:
+    """A cell; XlsxWriter answers 0, or why it has left the cell out."""
+    left_out = 0
     if isinstance(cell, Formula):
         shape = "General" if isinstance(cell.value, str) else shape_of(cell.places)
-        page.write_formula(row, column, cell.text, formats.of(shape), cell.value)
+        left_out = page.write_formula(row, column, cell.text, formats.of(shape), cell.value)
     elif isinstance(cell, Decimal):
-        page.write_number(row, column, float(cell.text), formats.of(shape_of(cell.places)))
+        left_out = page.write_number(row, column, float(cell.text), formats.of(shape_of(cell.places)))
     elif isinstance(cell, int):
-        page.write_number(row, column, cell, formats.of(WHOLE))
+        left_out = page.write_number(row, column, cell, formats.of(WHOLE))
     elif cell:
-        page.write_string(row, column, shortened(cell), formats.of(TEXT))
+        left_out = page.write_string(row, column, shortened(cell), formats.of(TEXT))
+    if left_out:
+        raise BookError(f"sheet {page.get_name()}: row {row + 1}, column {column + 1} can't hold {str(cell)[:80]!r}")
 
 
 def write_sheet(book: Any, sheet: Sheet, formats: Formats) -> None:
@@ -86,12 +95,13 @@ def write_workbook(path: Path, sheets: Sequence[Sheet], title: str) -> None:
     except OSError as error:
         raise BookError(f"{path} can't be written: {error.strerror}") from None
     try:
-        book = writer.Workbook(name, OPTIONS)
-        book.set_properties({"title": title, "created": FIXED})
-        formats = Formats(book)
-        for sheet in sheets:
-            write_sheet(book, sheet, formats)
-        book.close()
+        with tempfile.TemporaryDirectory(prefix="outagebook-") as folder:
+            book = writer.Workbook(name, {**OPTIONS, "tmpdir": folder})
+            book.set_properties({"title": title, "created": FIXED})
+            formats = Formats(book)
+            for sheet in sheets:
+                write_sheet(book, sheet, formats)
+            book.close()
         mask = os.umask(0)
         os.umask(mask)
         os.chmod(name, 0o666 & ~mask)
