@@ -89,9 +89,9 @@ def write_program_files(book: Path, folder: Path, program: str) -> None:
 # By the tools.
 
 
-def asked_by(found: Checked, order: Order, folder: Path, made: Made) -> tuple[Asked, Wanted]:
-    """What the report and the workbook show, with the pack's lists read."""
-    path = {name: str(list_file(folder, name)) for name in order.lists}
+def asked_by(found: Checked, order: Order, lists: dict[str, Path]) -> tuple[Asked, Wanted]:
+    """What the report and the workbook show, with the lists read."""
+    path = {name: str(lists[name]) for name in order.lists}
     names = read_names(path["names"], found.book) if "names" in path else None
     causes = read_cause_groups(path["causes"], found.book) if "causes" in path else None
     sections = read_section_groups(path["by"], found.book) if "by" in path else None
@@ -108,9 +108,9 @@ def asked_by(found: Checked, order: Order, folder: Path, made: Made) -> tuple[As
     return asked, wanted
 
 
-def write_tool_files(found: Checked, order: Order, lists: Path, folder: Path, made: Made) -> None:
-    """Commands, rows of interruptions, filings, report and workbook; `lists` is the folder of the pack that has the lists."""
-    asked, wanted = asked_by(found, order, lists, made)
+def write_tool_files(found: Checked, order: Order, lists: dict[str, Path], folder: Path, made: Made) -> None:
+    """Commands, rows of interruptions, filings, report and workbook."""
+    asked, wanted = asked_by(found, order, lists)
     with (folder / COMMANDS).open("w", encoding="utf-8", newline="") as file:
         write_rows((command.row() for command in read_commands(found.database)), file)
     with (folder / INTERRUPTIONS).open("w", encoding="utf-8", newline="") as file:

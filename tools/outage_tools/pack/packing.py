@@ -100,7 +100,7 @@ def fill(folder: Path, args: Namespace) -> None:
     made = made_by(None, args.program)
     write_program_files(book, folder, args.program)
     with open_book(str(book), None, args.program) as found:
-        write_tool_files(found, order, folder, folder, made)
+        write_tool_files(found, order, {name: Path(getattr(args, name)) for name in order.lists}, folder, made)
         manifest = Manifest(about(found, order, made), packed(folder))
     (folder / NAME).write_text(manifest.text(), encoding="utf-8")
 

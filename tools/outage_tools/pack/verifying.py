@@ -35,6 +35,7 @@ from outage_tools.pack.files import (
     WORKBOOK,
     Order,
     answer_of,
+    list_file,
     own_copy,
     run_program,
     tool_files,
@@ -259,7 +260,8 @@ def made_again(pack: Path, manifest: Manifest, program: str, found: Findings) ->
     with tempfile.TemporaryDirectory(prefix="outagebook-") as name:
         try:
             with open_book(str(pack / BOOK), None, program) as opened:
-                write_tool_files(opened, order, pack, Path(name), versions)
+                lists = {each: list_file(pack, each) for each in order.lists}
+                write_tool_files(opened, order, lists, Path(name), versions)
         except Differs as differs:
             found.wrong.append((BOOK, f"the tools count something else: {differs}"))
             return
