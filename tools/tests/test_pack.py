@@ -120,7 +120,6 @@ FORGED: dict[str, tuple[str, Callable[[Path], None]]] = {
 BY_TOOLS_ALONE: dict[str, tuple[str, Callable[[Path], None]]] = {
     "a line of a filing": ("filing-eia861.csv", replaced("194.126", "194.125")),
     "the order of commands": ("commands.csv", lambda path: swap_rows(path)),
-    "a section's name in a row": ("interruptions.csv", replaced("CHURCH-ROW", "CHURCH-WAY")),
 }
 
 
@@ -279,6 +278,14 @@ class Forged(unittest.TestCase):
             found = found_in(with_right_sums(folder, tools_sha256="0" * 64))
             self.assertEqual(found.wrong, [])
             self.assertTrue(any(name in note and "other versions" in note for note in found.notes), what)
+
+    def test_rows_and_workbook_that_differ(self) -> None:
+        """A name in a row, of which no count tells: the workbook has another one."""
+        folder = copied("rows")
+        replaced("CHURCH-ROW", "CHURCH-WAY")(folder / "interruptions.csv")
+        self.assertEqual(set(wrong_in(with_right_sums(folder))), {"interruptions.csv", "workbook.xlsx"})
+        wrong = wrong_in(with_right_sums(folder, tools_sha256="0" * 64))
+        self.assertEqual(wrong, {"workbook.xlsx": "row 1 of its interruptions isn't that of interruptions.csv"})
 
     def test_a_book_that_was_changed(self) -> None:
         folder = copied("book")
