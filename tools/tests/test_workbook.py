@@ -161,6 +161,8 @@ class Shapes(unittest.TestCase):
         with self.assertRaisesRegex(BookError, "sheet wide: row 2, column 16385 can't hold '1'"):
             write_workbook(support.folder() / "wide.xlsx", [sheet], "wide")
         self.assertFalse((support.folder() / "wide.xlsx").exists())
+        with self.assertRaisesRegex(BookError, "sheet odd: row 2, column 1 can't hold"):
+            write_workbook(support.folder() / "odd.xlsx", [Sheet("odd", [], ["a"], [["a\x01b"]])], "odd")
 
     def test_parts(self) -> None:
         sheet = Sheet("rows", [], ["a"], [[number] for number in range(5)])

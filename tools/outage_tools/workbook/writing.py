@@ -1,6 +1,7 @@
 """Sheets as an XLSX file, whose bytes are the same for the same sheets. Each text is a text: nothing is taken for a date."""
 
 import os
+import re
 import sys
 import tempfile
 from collections.abc import Sequence
@@ -20,6 +21,7 @@ OPTIONS: dict[str, Any] = {
     "strings_to_urls": False,
 }
 TEXT, WHOLE = "@", "0"
+CONTROL = re.compile("[\x00-\x08\x0b\x0c\x0e-\x1f\ufffe\uffff]")  # characters that no XML file may have
 
 
 def xlsxwriter_module() -> Any:
@@ -67,7 +69,8 @@ def write_cell(page: Any, row: int, column: int, cell: Cell, formats: Formats) -
     elif isinstance(cell, int):
         left_out = page.write_number(row, column, cell, formats.of(WHOLE))
     elif cell:
-        left_out = page.write_string(row, column, shortened(cell), formats.of(TEXT))
+        has_control = CONTROL.search(cell) is not None
+        left_out = has_control or page.write_string(row, column, shortened(cell), formats.of(TEXT))
     if left_out:
         raise BookError(f"sheet {page.get_name()}: row {row + 1}, column {column + 1} can't hold {str(cell)[:80]!r}")
 
