@@ -4,6 +4,7 @@
                              [--csv | --json] [--late] [--names FILE] [--table FILE | --program PATH]
     python3 tools/figures.py BOOK events [--ticket RULE] ..
     python3 tools/figures.py BOOK indices [--hours H ..] [--kva FILE] ..
+    python3 tools/figures.py BOOK ranking [--earlier BOOK] ..
     python3 tools/figures.py BOOK groups --by FILE ..
     python3 tools/figures.py BOOK cause-groups --causes FILE ..
 
@@ -28,13 +29,14 @@ from outage_tools.feeders import feeders, sections
 from outage_tools.forms import Figures, Value, write_csv, write_json, write_text
 from outage_tools.lists import read_cause_groups, read_names, read_section_groups, with_names
 from outage_tools.outages import interruptions
+from outage_tools.ranking import ranking
 from outage_tools.rates import both
 from outage_tools.section_groups import groups
 from outage_tools.work import lives, switchings
 
 __all__ = ["FIGURES", "TERMS", "Figures", "Value", "indices", "main", "meaning_of"]
 __all__ += ["causes", "customers", "days", "events", "feeders", "groups", "interruptions", "lives", "months"]
-__all__ += ["sections", "switchings"]
+__all__ += ["ranking", "sections", "switchings"]
 __all__ += ["write_csv", "write_json", "write_text"]
 
 INDEX_MEANINGS = {
@@ -95,6 +97,7 @@ FIGURES: dict[str, Callable[[Checked], Figures]] = {
     "days": days,
     "months": months,
     "feeders": feeders,
+    "ranking": ranking,
     "causes": causes,
     "sections": sections,
     "customers": customers,
@@ -110,8 +113,17 @@ def indices_by(found: Checked, args: Namespace) -> Figures:
     return indices(found, args.hours or further.HOURS, loads)
 
 
+def ranking_by(found: Checked, args: Namespace) -> Figures:
+    """The feeders by SAIDI, with their ranks in the book that a word of the command line names."""
+    if args.earlier is None:
+        return ranking(found)
+    with open_book(args.earlier, None, args.program) as earlier:
+        return ranking(found, earlier)
+
+
 # Figures that words of the command line change, and those that can't be shown without a list.
 WITH_WORDS: dict[str, Callable[[Checked, Namespace], Figures]] = {
+    "ranking": ranking_by,
     "events": lambda found, args: events(found, args.ticket or DEFAULT_RULE),
     "indices": indices_by,
     "switchings": lambda found, args: switchings(found, args.late),
@@ -123,6 +135,7 @@ WITH_WORDS: dict[str, Callable[[Checked, Namespace], Figures]] = {
 WORDS = {
     "late": "switchings",
     "ticket": "events",
+    "earlier": "ranking",
     "by": "groups",
     "causes": "cause-groups",
     "hours": "indices",
@@ -175,6 +188,7 @@ def main() -> int:
     )
     add_list_arguments(parser)
     parser.add_argument("--by", metavar="FILE", help="of groups: a CSV of section and group")
+    parser.add_argument("--earlier", metavar="BOOK", help="of ranking: the book of the year before, for its ranks")
     parser.add_argument("--hours", nargs="+", type=further.read_hours, metavar="H", help="of indices: those of CELID")
     parser.add_argument(
         "--kva", metavar="FILE", help="of indices: connected kVA by section or customer, for ASIFI, ASIDI"

@@ -4,6 +4,7 @@ import csv
 import json
 import sys
 from dataclasses import dataclass
+from typing import IO
 
 Value = int | str
 
@@ -30,11 +31,16 @@ def write_text(figures: Figures) -> None:
         print("  ".join(padded).rstrip())
 
 
-def write_csv(figures: Figures) -> None:
+def write_csv_to(figures: Figures, out: IO[str]) -> None:
     """CSV with a line of the columns' names before the rows."""
-    writer = csv.writer(sys.stdout, lineterminator="\n")
+    writer = csv.writer(out, lineterminator="\n")
     writer.writerow(figures.columns)
     writer.writerows(figures.rows)
+
+
+def write_csv(figures: Figures) -> None:
+    """CSV on standard output."""
+    write_csv_to(figures, sys.stdout)
 
 
 def write_json(figures: Figures) -> None:

@@ -1,9 +1,10 @@
 """Major event days by the 2.5 beta method of IEEE Std 1366-2012: a threshold by the days of up to five years before.
 
-    outagebook-major-days BOOK.. [--csv | --json] [--rows ENGINEER -o FOLDER] [--page FILE [--name NAME]]
-                          [--own-numbers] [--processes N] [--table FILE .. | --program PATH]
+    outagebook-major-days BOOK.. [--daily FILE] [--csv | --json] [--rows ENGINEER -o FOLDER]
+                          [--page FILE [--name NAME]] [--own-numbers] [--processes N] [--table FILE .. | --program PATH]
 
 The books are those of a year and of the years before it, of one district or of many: books of one period are added up.
+Years before that have no books may come from a list of daily SAIDI (daily.py).
 The latest period is the one in question; the threshold T_MED = exp(alpha + 2.5 beta) comes from the natural logarithms of
 the daily SAIDI of the five periods before it, alpha their mean and beta their standard deviation. Nothing is marked here:
 an engineer does that, and --rows writes what may be imported.
@@ -23,6 +24,7 @@ from pathlib import Path
 
 from outage_tools.cli import Parser, add_page_arguments, run_job
 from outage_tools.counts import decimal_text, fraction_text
+from outage_tools.daily import ListedPeriod, ListedYear, read_daily
 from outage_tools.errors import BookError
 from outage_tools.sums import District, PeriodKey, Sums, add_book_arguments, add_up, read_districts, tables_given
 
@@ -46,11 +48,20 @@ class Day:
 
 
 @dataclass(frozen=True)
+class Before:
+    """A period before the year in question: its days with a daily SAIDI above 0, and how many have none."""
+
+    period: PeriodKey | ListedPeriod
+    days: tuple[Day, ...]
+    empty_days: int
+
+
+@dataclass(frozen=True)
 class Threshold:
     """The threshold by the days of the years before."""
 
-    periods: tuple[PeriodKey, ...]
-    left_out: tuple[PeriodKey, ...]  # periods before the five
+    periods: tuple[PeriodKey | ListedPeriod, ...]
+    left_out: tuple[PeriodKey | ListedPeriod, ...]  # periods before the five
     days: tuple[Day, ...]  # with a daily SAIDI above 0
     empty_days: int  # without a sustained interruption that began on them
 
@@ -141,24 +152,47 @@ def days_of(sums: Sums) -> tuple[list[Day], int]:
     return days, empty
 
 
-def threshold_of(years: Sequence[Sums]) -> Threshold:
+def before_of(sums: Sums) -> Before:
+    """A period by its books."""
+    days, empty = days_of(sums)
+    return Before(sums.period, tuple(days), empty)
+
+
+def before_by_list(year: ListedYear) -> Before:
+    """A period by a list."""
+    days = tuple(Day(day.date, day.saidi) for day in year.days if day.saidi)
+    return Before(year.period, days, len(year.days) - len(days))
+
+
+def periods_before(years: Sequence[Sums], listed: Sequence[ListedYear]) -> list[Before]:
+    """The periods before the last one, by books and by a list, which don't have the same year."""
+    for year in listed:
+        for each in years[:-1]:
+            if year.period.first <= each.period.last and each.period.first <= year.period.last:
+                raise year.days[0].row.refused(
+                    f"the list has days of the year from {year.period.first}, and a book that from {each.period.first}:"
+                    " leave one of them out"
+                )
+    before = [*map(before_of, years[:-1]), *map(before_by_list, listed)]
+    return sorted(before, key=lambda each: each.period.first)
+
+
+def threshold_of(before: Sequence[Before]) -> Threshold:
     """The threshold by the last five of some periods."""
-    used = years[-MOST_YEARS:]
-    days: list[Day] = []
-    empty = 0
-    for each in used:
-        more, without = days_of(each)
-        days += more
-        empty += without
-    left_out = tuple(each.period for each in years[: -len(used)] if used) if used else ()
-    return Threshold(tuple(each.period for each in used), left_out, tuple(days), empty)
+    used, left_out = before[-MOST_YEARS:], before[:-MOST_YEARS]
+    return Threshold(
+        tuple(each.period for each in used),
+        tuple(each.period for each in left_out),
+        tuple(day for each in used for day in each.days),
+        sum(each.empty_days for each in used),
+    )
 
 
-def answer_of(years: Sequence[Sums]) -> Answer:
+def answer_of(years: Sequence[Sums], listed: Sequence[ListedYear] = ()) -> Answer:
     """The days of the last period above the threshold of those before it."""
-    if len(years) < 2:
+    if len(years) < 2 and not listed:
         raise BookError("a threshold needs books of an earlier period: there are those of one period alone")
-    year, threshold = years[-1], threshold_of(years[:-1])
+    year, threshold = years[-1], threshold_of(periods_before(years, listed))
     above: list[MajorDay] = []
     if threshold.is_defined:
         for day in days_of(year)[0]:
@@ -192,12 +226,18 @@ def about(years: Sequence[Sums], answer: Answer) -> Iterator[str]:
     )
     for period in threshold.left_out:
         yield f"The days from {period.first} to {period.last} are more than {MOST_YEARS} periods back, and left out."
+    listed = [period for period in threshold.periods if isinstance(period, ListedPeriod)]
+    kinds = "books" if not listed else "lists" if len(listed) == len(threshold.periods) else "books and lists"
     if len(threshold.periods) < MOST_YEARS:
         yield (
-            f"There are books of {len(threshold.periods)} of the {MOST_YEARS} periods before: all their days are used, as"
+            f"There are {kinds} of {len(threshold.periods)} of the {MOST_YEARS} periods before: all their days are used, as"
             " the standard says."
         )
     yield from gaps(years)
+    for period in listed:
+        missing = period.days - period.listed
+        told = f", and not {missing} of them, which count as days without an interruption" if missing else ""
+        yield f"The days from {period.first} to {period.last} are from a list{told}; no program has counted them."
     yield (
         f"{len(threshold.days)} days have a daily SAIDI above 0; {threshold.empty_days} have none, and no logarithm: they"
         " are left out."
@@ -282,6 +322,11 @@ def write_rows(answer: Answer, folder: str, engineer: str) -> None:
 def main() -> int:
     parser = Parser(description="Finds the days of a year above the threshold of the years before it.")
     add_book_arguments(parser)
+    parser.add_argument(
+        "--daily",
+        metavar="FILE",
+        help="a CSV of day and saidi (minutes): daily SAIDI of years before that have no book",
+    )
     form = parser.add_mutually_exclusive_group()
     form.add_argument("--csv", dest="write", action="store_const", const=write_csv, default=write_text, help="as CSV")
     form.add_argument("--json", dest="write", action="store_const", const=write_json, help="as JSON")
@@ -298,14 +343,15 @@ def main() -> int:
 
     def job() -> None:
         years = read_years(read_districts(args.books, tables, args.program, args.processes), args.own_numbers)
-        answer = answer_of(years)
+        listed = read_daily(args.daily, years[-1].period.first) if args.daily else []
+        answer = answer_of(years, listed)
         if args.rows:
             write_rows(answer, args.output, args.rows)
         if args.page:
             from outage_tools.many_pages import major_days_page
             from outage_tools.report import write
 
-            write(args.page, major_days_page(years, args.name, args.date))
+            write(args.page, major_days_page(years, args.name, args.date, listed))
         args.write(years, answer)
 
     return run_job(job)

@@ -5,6 +5,7 @@ from html import escape
 
 from outage_tools import charts, figures, report
 from outage_tools.counts import SETS, decimal_text, quotient, quotient_text
+from outage_tools.daily import ListedYear
 from outage_tools.report import Column, TableRow
 from outage_tools.sums import DISTRICT_COLUMNS, District, PeriodKey, Sums, about, district_rows, marks_that_differ
 
@@ -204,9 +205,9 @@ def feeder_part(sums: Sums) -> str:
 # Major event days.
 
 
-def major_days_page(years: Sequence[Sums], name: str, date: str = "") -> str:
+def major_days_page(years: Sequence[Sums], name: str, date: str = "", listed: Sequence[ListedYear] = ()) -> str:
     """The page of a year's days against the threshold of the years before it."""
     period, books = years[-1].period, [each for year in years for each in year.districts]
     state = state_of(books, f"{len(books)} books of {len(years)} periods")
-    parts = [top(name, period, state, date), report.major_days_part(years).text]
+    parts = [top(name, period, state, date), report.major_days_part(years, listed).text]
     return page_of(title_of(name, period), parts, state, date)

@@ -6,6 +6,7 @@ from html import escape
 
 from outage_tools.charts import Bar, legend
 from outage_tools.counts import decimal_text
+from outage_tools.daily import ListedYear
 from outage_tools.major_days import Answer, Threshold, about, answer_of, facts
 from outage_tools.report.pictures import drawn
 from outage_tools.report.pieces import COMPUTED, Column, Part, TableRow, numbers, table
@@ -21,9 +22,9 @@ HISTOGRAM_NOTE = (
 )
 
 
-def major_days_part(years: Sequence[Sums]) -> Part:
+def major_days_part(years: Sequence[Sums], listed: Sequence[ListedYear] = ()) -> Part:
     """The latest period's days against the threshold of the periods before it."""
-    answer = answer_of(years)
+    answer = answer_of(years, listed)
     said = "".join(f"<li>{escape(line)}</li>" for line in about(years, answer))
     content = f"""
 <p>The threshold T_MED by the 2.5 beta method of IEEE Std 1366-2012, and the days above it. It marks nothing: an engineer
