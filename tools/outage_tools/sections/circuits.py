@@ -1,0 +1,84 @@
+"""The feeders: each circuit begins at its head, the first edge that has it on the walk from the sources."""
+
+from collections import defaultdict
+from dataclasses import dataclass
+
+from outage_tools.oms.complaints import Complaints, Notes
+from outage_tools.sections.cut import GRID_AREA, Cut, graph_of, walked
+from outage_tools.sections.edges import Edge, Raw
+
+MOST_FEEDERS = 255
+
+
+@dataclass(frozen=True)
+class Circuits:
+    """The circuit of each node by the walk: empty between a source and the first head. `heads` has the edge at which a circuit
+    begins, by the node behind it."""
+
+    at: dict[str, str]
+    heads: dict[str, Edge]
+
+
+def circuits_of(raw: Raw) -> Circuits:
+    """The walk goes over closed edges, whether they are devices or not."""
+    graph = graph_of((edge for edge in raw.joining() if edge.is_closed), raw.sources)
+    at: dict[str, str] = {}
+    heads: dict[str, Edge] = {}
+    for node, step in walked(graph, raw.sources).before.items():
+        if step is None:
+            at[node] = ""
+            continue
+        before, name = step
+        edge = raw.edges[name]
+        at[node] = at[before] or edge.circuit
+        if edge.circuit and not at[before]:
+            heads[node] = edge
+    return Circuits(at, heads)
+
+
+def note_differences(raw: Raw, circuits: Circuits, notes: dict[str, Notes]) -> None:
+    """The edges that have another circuit than the walk gives their ends."""
+    for edge in raw.edges.values():
+        by_walk = {circuits.at[end] for end in edge.ends if end in circuits.at} - {""}
+        if edge.circuit and by_walk and edge.circuit not in by_walk:
+            listed = " and ".join(sorted(by_walk))
+            notes[edge.spot.file].noticed(
+                f"circuit {edge.circuit}, while the walk from the source says {listed}", edge.spot
+            )
+
+
+def area_circuits(cut: Cut, circuits: Circuits, complaints: Complaints) -> dict[int, str]:
+    """The circuit of each area that is fed; a bus has none. One in which two begin without a device between them is refused."""
+    found: dict[int, set[str]] = defaultdict(set)
+    for node, circuit in circuits.at.items():
+        found[cut.area[node]].add(circuit)
+    del found[GRID_AREA]
+    for area, names in found.items():
+        if len(names - {""}) > 1:
+            heads = [edge for node, edge in circuits.heads.items() if cut.area[node] == area]
+            others = " and ".join(f"{edge.circuit} at {edge.told}" for edge in heads[1:])
+            text = f"circuit {heads[0].circuit} begins at {heads[0].name}, and {others}, with no device between them"
+            complaints.add(heads[0].spot, text)
+    return {area: max(names) for area, names in found.items()}
+
+
+def note_mixed(cut: Cut, circuits: Circuits, of_area: dict[int, str], notes: dict[str, Notes]) -> None:
+    """Buses that a circuit without a device at its head makes a section: other circuits begin behind it."""
+    for node, edge in circuits.heads.items():
+        area = cut.area[node]
+        others = {of_area.get(other, "") for other in cut.closed.adj[area]} - {"", of_area.get(area)}
+        if set(cut.areas_of(edge)) == {area} and area != GRID_AREA and others:
+            text = f"circuit {edge.circuit} begins without a device, so the bus before it becomes a section of it"
+            notes[edge.spot.file].noticed(text, edge.spot)
+
+
+def numbers_of(circuits: list[str], earlier: dict[str, int]) -> dict[str, int]:
+    """The feeder's number of each circuit: that of an earlier run, else its own if all are numbers, else the next one that is
+    free, in the order of the circuits' names."""
+    if not earlier and all(name.isdecimal() and 1 <= int(name) <= MOST_FEEDERS for name in circuits):
+        return {name: int(name) for name in circuits}
+    found = {name: earlier[name] for name in circuits if name in earlier}
+    taken = set(earlier.values())
+    free = (number for number in range(1, len(circuits) + len(taken) + 1) if number not in taken)
+    found |= {name: next(free) for name in sorted(circuits) if name not in earlier}
+    return found
