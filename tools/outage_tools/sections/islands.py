@@ -106,7 +106,7 @@ def look_at_islands(
             continue
         left |= island.areas
         reason = "spare parts behind open devices" if island.ties else "edges that no source feeds and nobody is on"
-        for edge in (*island.edges, *island.ties):
+        for edge in (*(each for each in island.edges if each.a != each.b), *island.ties):
             notes[edge.spot.file].left_out(reason + near.text(island.nodes), edge.spot)
     return left
 

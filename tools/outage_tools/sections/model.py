@@ -87,6 +87,10 @@ class Maker:
         note_mixed(cut, circuits, of_area, notes)
         numbers = numbers_of(sorted({circuit for circuit in of_area.values() if circuit}), self.earlier.feeders)
         made = Naming(Model(raw, cut, numbers), self.earlier, of_area, left, meters).named(placed)
+        for label, name in made.names.items():
+            if label in raw.edges and label.upper() != name:
+                edge = raw.edges[label]
+                notes[edge.spot.file].changed("labels that became other names of devices", edge.spot)
         made.of_row = named.of_row
         if tickets:
             note_names(raw, named, set(made.names), notes[tickets.path])
