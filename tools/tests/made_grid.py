@@ -122,7 +122,9 @@ class Grid:
         if self.ties and self.draw.random() < 0.4:
             return self.with_tie(f"T{number}", out, back)
         kind = self.draw.choice(("transformer", "fuse", "switch", "breaker"))
-        edge = self.draw.choice([each for each in self.edges if each.kind == kind and each.normal != "0"])
+        edge = self.draw.choice(
+            [each for each in self.edges if each.kind == kind and each.normal != "0" and each.circuit]
+        )
         self.tickets.append((f"T{number}", 1, edge.name, out, back))
         return back
 
@@ -213,15 +215,16 @@ class Grid:
         sustained = {number: [each for each in listed if each > SUSTAINED] for number, listed in lengths.items()}
         served = sum(min(until or END, END) - max(since, FIRST) for _, since, until in self.customers.values())
         customers = Fraction(served, END - FIRST)
-        count = sum(map(len, sustained.values()))
-        seconds = sum(map(sum, sustained.values()))
+        count = sum(len(listed) for listed in sustained.values())
+        seconds = sum(sum(listed) for listed in sustained.values())
+        everything = [each for listed in lengths.values() for each in listed]
         return {
-            "W": Fraction(sum(map(sum, lengths.values()))),
+            "W": Fraction(sum(everything)),
             "SAIFI": count / customers,
             "SAIDI": Fraction(seconds, 60) / customers,
             "CAIDI": Fraction(seconds, 60) / count,
             "CAIFI": Fraction(count, sum(1 for listed in sustained.values() if listed)),
-            "MOMENTARY": Fraction(sum(map(len, lengths.values())) - count),
+            "MOMENTARY": Fraction(len(everything) - count),
         }
 
 

@@ -96,17 +96,14 @@ class Given(unittest.TestCase):
         self.assertEqual(run(*words, "--sources", sources).files, found.files)
 
     def test_a_coarse_network(self) -> None:
-        """Devices are those of tickets, and open ones."""
+        """Devices are those of tickets, open ones, and those at which circuits begin."""
         rows = "ticket,device,out,restored,cause\n1,FU 34,2025-01-01 01:00,2025-01-01 02:00,WIND\n"
         words = ["--edges", written("edges", EDGES), "--source", "N0", "--customers", written("customers", CUSTOMERS)]
-        found = run(*words, "--only-opened", written("oms", rows))
-        self.assertEqual(found.status, 1)  # the feeders' heads are joined, so both circuits would hang on GRID
-        rows += "2,cb-7,2025-01-02 01:00,2025-01-02 02:00,WIND\n3,CB-8,2025-01-03 01:00,2025-01-03 02:00,WIND\n"
         found = run(*words, "--only-opened", written("oms", rows))
         self.assertEqual(found.devices["FU-34"], ("S-CB-7", "S-FU-34", "closed"))
         self.assertEqual([*found.devices], ["CB-7", "FU-34", "SW-9", "CB-8"])
         self.assertEqual(found.customers, {"1": "S-FU-34", "2": "S-FU-34", "3": "S-CB-7", "4": "S-CB-8"})
-        self.assertEqual([row[1] for row in found.files["oms.csv"]], ["FU-34", "CB-7", "CB-8"])
+        self.assertEqual([row[1] for row in found.files["oms.csv"]], ["FU-34"])
 
     def test_customers_on_nodes(self) -> None:
         customers = (

@@ -4,7 +4,7 @@ from collections import defaultdict
 from dataclasses import dataclass
 
 from outage_tools.oms.complaints import Complaints, Notes
-from outage_tools.sections.cut import GRID_AREA, Cut, graph_of, walked
+from outage_tools.sections.cut import GRID_AREA, Choice, Cut, Walked, graph_of, walked
 from outage_tools.sections.edges import Edge, Raw
 
 MOST_FEEDERS = 255
@@ -17,6 +17,19 @@ class Circuits:
 
     at: dict[str, str]
     heads: dict[str, Edge]
+    walk: Walked
+
+    def devices_at_heads(self, raw: Raw, choice: Choice) -> frozenset[str]:
+        """The last device before each circuit begins, its head's own edge counted. Without it the circuit would hang on what lies
+        before it, so a coarse network has it too."""
+        found = set()
+        for node in self.heads:
+            at = node
+            while (step := self.walk.before[at]) and not choice.may_be(raw.edges[step[1]]):
+                at = step[0]
+            if step:
+                found.add(step[1])
+        return frozenset(found)
 
 
 def circuits_of(raw: Raw) -> Circuits:
@@ -24,7 +37,8 @@ def circuits_of(raw: Raw) -> Circuits:
     graph = graph_of((edge for edge in raw.joining() if edge.is_closed), raw.sources)
     at: dict[str, str] = {}
     heads: dict[str, Edge] = {}
-    for node, step in walked(graph, raw.sources).before.items():
+    walk = walked(graph, raw.sources)
+    for node, step in walk.before.items():
         if step is None:
             at[node] = ""
             continue
@@ -33,7 +47,7 @@ def circuits_of(raw: Raw) -> Circuits:
         at[node] = at[before] or edge.circuit
         if edge.circuit and not at[before]:
             heads[node] = edge
-    return Circuits(at, heads)
+    return Circuits(at, heads, walk)
 
 
 def note_differences(raw: Raw, circuits: Circuits, notes: dict[str, Notes]) -> None:

@@ -23,12 +23,13 @@ class Choice:
     joined: frozenset[str] = frozenset()
     opened: frozenset[str] | None = None
 
+    def may_be(self, edge: Edge) -> bool:
+        """It is a device in a network in all detail."""
+        return not edge.is_closed or (edge.kind in self.kinds and edge.name not in self.joined)
+
     def is_device(self, edge: Edge) -> bool:
-        if not edge.is_closed:
-            return True
-        if edge.kind not in self.kinds or edge.name in self.joined:
-            return False
-        return self.opened is None or edge.name in self.opened
+        is_opened = self.opened is None or not edge.is_closed or edge.name in self.opened
+        return is_opened and self.may_be(edge)
 
 
 @dataclass(frozen=True)

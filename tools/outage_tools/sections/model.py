@@ -1,7 +1,7 @@
 """The cut of a network as a book takes it: buses, sections and devices by their names, and where each customer is."""
 
 from collections.abc import Iterator
-from dataclasses import dataclass, field
+from dataclasses import dataclass, field, replace
 
 from outage_tools.normal_state import SOURCE
 from outage_tools.oms.complaints import Notes
@@ -73,8 +73,10 @@ class Maker:
         reading, raw = self.reading, self.reading.raw
         notes = {each.file: each for each in reading.files}
         named = named_in(raw, tickets, reading.complaints) if tickets else Named()
-        cut = cut_of(raw, self.choice)
         circuits = circuits_of(raw)
+        if self.choice.opened is not None:
+            self.choice = replace(self.choice, opened=self.choice.opened | circuits.devices_at_heads(raw, self.choice))
+        cut = cut_of(raw, self.choice)
         of_area = area_circuits(cut, circuits, reading.complaints)
         placed = placed_of(cut, reading.complaints)
         refuse_without_feeder(cut, placed, of_area, reading.complaints)

@@ -19,6 +19,7 @@ VALUE = r"""\([^)]*\)|\[[^\]]*\]|\{[^}]*\}|"[^"]*"|'[^']*'|[^\s,]+"""
 TOKEN = re.compile(rf"(?:([^\s,=\"'(\[{{]+)\s*=\s*)?({VALUE})")
 COMMENT = re.compile(r"!|//")
 MORE = ("~", "more", "m")
+SAY_NOTHING = ("set", "solve", "calcvoltagebases", "calcv", "show", "plot", "export", "visualize")  # of the network
 READ_CLASSES = ("circuit", "vsource", "line", "transformer", "reactor", "load", "energymeter", "swtcontrol")
 PROTECTIVE = {"fuse": "fuse", "recloser": "recloser", "relay": "breaker"}
 YES, OPEN = ("y", "yes", "t", "true"), ("o", "open")
@@ -44,6 +45,8 @@ class Element:
     def put(self, name: str, value: str) -> None:
         """A property; those of a winding are of the one that was told last."""
         if name == "wdg":
+            if not value.isdecimal():
+                raise BadRow(f"wdg {value!r} is no number")
             self.winding = int(value)
         elif name == "bus" and self.kind == "transformer":
             self.windings[self.winding] = bus_of(value)
@@ -79,7 +82,7 @@ class Script:
     """The elements of a script, by class and name."""
 
     reading: Reading
-    notes: Notes
+    notes: dict[str, Notes] = field(default_factory=dict)  # of each file
     elements: dict[str, Element] = field(default_factory=dict)
     last: Element | None = None
     opened: dict[str, bool] = field(default_factory=dict)  # by `open` and `close`
@@ -89,9 +92,11 @@ class Script:
         if depth > MOST_DEPTH:
             raise BadRow(f"scripts call one another more than {MOST_DEPTH} deep")
         is_comment = False
+        notes = self.notes.get(str(path)) or self.reading.notes("opendss", str(path))
+        self.notes[str(path)] = notes
         with open_lines(str(path), self.reading.format.encoding) as (_, lines):
             for number, line in enumerate(lines, 1):
-                self.notes.rows += 1
+                notes.rows += 1
                 line = line.strip()
                 is_comment = is_comment or line.startswith("/*")
                 text = "" if is_comment else COMMENT.split(line, 1)[0].strip()
@@ -121,8 +126,8 @@ class Script:
             self.elements.clear()
         elif command.count(".") and command.split(".")[0] in (*READ_CLASSES, *PROTECTIVE):
             self.edit(command, first, rest)
-        else:
-            self.notes.left_out(f"the command {command}", spot)
+        elif command not in SAY_NOTHING:
+            self.notes[spot.file].left_out(f"the command {command}", spot)
 
     def edit(self, command: str, first: tuple[str, str], rest: list[tuple[str, str]]) -> None:
         """A property of an element that is there, as `Line.L1.enabled=no`."""
@@ -144,7 +149,7 @@ class Script:
         else:
             self.elements[label] = self.last
         if kind not in (*READ_CLASSES, *PROTECTIVE):
-            self.notes.left_out(f"elements of the class {kind}, which join nothing", spot)
+            self.notes[spot.file].left_out(f"elements of the class {kind}, which join nothing", spot)
         self.put(self.last, rest[1:])
 
     def put(self, element: Element | None, properties: list[tuple[str, str]]) -> None:
@@ -164,7 +169,7 @@ class Script:
     def named(self, label: str) -> Element:
         found = self.elements.get(label.lower())
         if found is None:
-            raise BadRow(f"there is no element {label}")
+            raise BadRow(f"there is no element {label.lower()}")
         return found
 
     def read_points(self, path: Path) -> None:
@@ -217,7 +222,7 @@ class Wiring:
 
     def is_enabled(self, element: Element) -> bool:
         if not element.is_enabled:
-            self.script.notes.left_out("elements that are not enabled", element.spot)
+            self.script.notes[element.spot.file].left_out("elements that are not enabled", element.spot)
         return element.is_enabled
 
     def control(self, element: Element) -> None:
@@ -278,7 +283,8 @@ class Wiring:
 
     def between(self, element: Element, label: str, kind: str, ends: tuple[str, str], is_closed: bool) -> None:
         """An edge, with those of its protective devices in series at its ends."""
-        circuit, reading, notes = self.circuits.get(element.label, ""), self.reading, self.script.notes
+        circuit, reading = self.circuits.get(element.label, ""), self.reading
+        notes = self.script.notes[element.spot.file]
         inner = list(ends)
         for each in self.controls.get(element.label, ()):
             if each.kind in PROTECTIVE:
@@ -299,7 +305,6 @@ def normally_open(control: Element) -> bool:
 
 def read_opendss(reading: Reading, path: str) -> None:
     """The network and the loads of a script."""
-    notes = reading.notes("opendss", path)
-    script = Script(reading, notes)
+    script = Script(reading)
     script.read(Path(path))
     Wiring(reading, script).all()
