@@ -42,6 +42,10 @@ class Grid:
     tickets: list[tuple[str, int, str, int, int]] = field(default_factory=list)  # number, step, edge, opened, closed
     trunks: dict[str, list[str]] = field(default_factory=dict)  # the switches of each circuit
     ties: dict[tuple[str, str], str] = field(default_factory=dict)  # by circuits
+    changed_at: int = END
+    gone: set[str] = field(default_factory=set)  # edges that are there before this second alone
+    new: set[str] = field(default_factory=set)  # edges that are there from it on
+    turned: dict[str, str] = field(default_factory=dict)  # normal positions from it on
 
     # Making the network.
 
@@ -113,6 +117,35 @@ class Grid:
             tie = self.add("switch", self.trunks[one][-1], self.trunks[other][-1], "0", one)
             self.ties[one, other] = tie
 
+    # Changing the network.
+
+    def change(self, at: int) -> None:
+        """At a second a fuse comes into a lateral, a transformer with customers is added, and an open point is moved."""
+        self.changed_at = at
+        begun = len(self.edges)
+        line = next(each for each in self.edges if each.kind == "line" and each.circuit and self.is_lateral(each))
+        self.gone.add(line.name)
+        near, far = line.a, line.b
+        middle = self.onward("line", near, circuit=line.circuit)
+        fuse = self.add("fuse", middle, far, "1", line.circuit)
+        self.onward("transformer", middle, circuit=line.circuit)
+        for number in range(3):
+            self.customers[len(self.customers) + 1] = self.edges[-1].name, at + number * DAY, None
+        (circuit, _), tie = next(iter(self.ties.items()))
+        self.turned = {tie: "1", self.trunks[circuit][-2]: "0"}
+        self.new = {edge.name for edge in self.edges[begun:]}
+        over = {ticket for ticket, _, edge, out, back in self.tickets if edge in self.turned and min(out, back) >= at}
+        self.tickets = [each for each in self.tickets if each[0] not in over]
+        behind = next(each.name for each in self.edges if each.kind == "transformer" and {near, far} & {each.a, each.b})
+        for number, edge in enumerate((fuse, self.edges[-1].name, behind), 1):
+            out = END - 9 * DAY + number * 3_000
+            self.tickets.append((f"LATE-{number}", 1, edge, out, out + 700 * number))
+
+    def is_lateral(self, line: RawEdge) -> bool:
+        """A fuse lies at one of its ends."""
+        ends = {line.a, line.b}
+        return any(each.kind == "fuse" and ends & {each.a, each.b} for each in self.edges)
+
     # Making tickets.
 
     def ticket(self, number: int, at: int) -> int:
@@ -140,25 +173,36 @@ class Grid:
 
     # The exports.
 
-    def edge_lines(self) -> Iterator[str]:
+    def edge_lines(self, is_later: bool = False) -> Iterator[str]:
+        """The network before, or after, the change."""
         yield "ID;Type;End 1;End 2;Pos;Circuit"
         for edge in self.edges:
-            yield f"{edge.name};{edge.kind};{edge.a};{edge.b};{edge.normal};{edge.circuit}"
+            if edge.name not in (self.gone if is_later else self.new):
+                normal = self.turned.get(edge.name, edge.normal) if is_later else edge.normal
+                yield f"{edge.name};{edge.kind};{edge.a};{edge.b};{normal};{edge.circuit}"
 
-    def customer_lines(self) -> Iterator[str]:
+    def customer_lines(self, is_later: bool = False) -> Iterator[str]:
         yield "customer;transformer;since;until"
         for number, (transformer, since, until) in self.customers.items():
+            if transformer in self.new and not is_later:
+                continue
             yield f"{number};{transformer};{moment(since)};{'' if until is None else moment(until)}"
 
-    def oms_lines(self) -> Iterator[str]:
+    def oms_lines(self, until: int = END) -> Iterator[str]:
+        """The tickets that begin before a second."""
         yield "ticket;step;device;out;restored;cause"
         for ticket, step, edge, out, restored in self.tickets:
+            if min(out, restored) >= until:
+                continue
             yield f"{ticket};{step};{edge};{moment(out)};{moment(restored)};WIND"
 
     # The count.
 
     def acts(self) -> list[Act]:
-        found = []
+        found = [(self.changed_at, edge, False) for edge in self.gone] + [
+            (self.changed_at, edge, True) for edge in self.new
+        ]
+        found += [(self.changed_at, edge, normal == "1") for edge, normal in self.turned.items()]
         for _, _, edge, out, restored in self.tickets:
             found += [(out, edge, False), (restored, edge, True)]
         return sorted(found)
@@ -179,10 +223,10 @@ class Grid:
         for edge in self.edges:
             beside[edge.a].append((edge.name, edge.b))
             beside[edge.b].append((edge.name, edge.a))
-        is_closed = {edge.name: edge.normal != "0" for edge in self.edges}
+        is_closed = {edge.name: edge.normal != "0" and edge.name not in self.new for edge in self.edges}
         served = {transformer for transformer, _, _ in self.customers.values()}
         ends = {edge.name: edge.a for edge in self.edges if edge.name in served}
-        out: dict[str, int] = {}
+        out = {transformer: FIRST for transformer in ends if transformer in self.new}
         found: dict[str, list[Interval]] = defaultdict(list)
         acts = self.acts()
         for place, (second, name, closes) in enumerate(acts):
@@ -196,8 +240,8 @@ class Grid:
                     found[transformer].append((out.pop(transformer), second))
                 elif not is_on:
                     out.setdefault(transformer, second)
-        if out:
-            raise ValueError("an outage isn't over")
+        for transformer in out:
+            raise ValueError(f"{transformer} is out at the end")
         return found
 
     def interruptions(self) -> dict[int, list[Interval]]:

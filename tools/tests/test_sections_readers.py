@@ -155,7 +155,7 @@ Set voltagebases=[4.16]
         for line, text in lines.items():
             found = script(f"{SCRIPT}{line}\n")
             row = 5 if line.startswith("open") else 9 if "\n" in line else 8
-            self.assertEqual(told(found), [f"town.dss: row {row}: {text}"], line)
+            self.assertEqual(told(found)[0], f"town.dss: row {row}: {text}", line)
 
     def test_dates_and_files_that_are_missing(self) -> None:
         text = "the model has customers, and no dates of their service: give --since DATE, or --customers FILE"

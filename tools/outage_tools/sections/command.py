@@ -3,6 +3,7 @@
     python3 tools/sections.py --edges edges.csv --source NODE [--customers customers.csv] -o FOLDER
                               [--oms oms.csv | --only-opened oms.csv] [--device KINDS] [--word MEANING=WORDS] ..
     python3 tools/sections.py --cim model.xml | --opendss master.dss .. -o FOLDER
+    python3 tools/sections.py .. -o FOLDER --as EARLIER --book BOOK --at MOMENT [--table FILE | --program PATH]
 
 FOLDER gets gis.csv, customers.csv and, if tickets are given, oms.csv, in the form of docs/use/IMPORTING.md; names.csv, which says
 what each edge is in them; feeders.csv, the circuit of each feeder's number. All is written, or nothing: whatever can't be cut is told
@@ -13,21 +14,26 @@ import argparse
 from collections import Counter
 from pathlib import Path
 
-from outage_tools.cli import Once, Parser, print_error, run_job
+from outage_tools.cli import Once, Parser, add_table_arguments, print_error, run_job
+from outage_tools.compare import open_book
 from outage_tools.district_files import read_rows
 from outage_tools.errors import BookError
-from outage_tools.oms.files import add_format_arguments, format_of
+from outage_tools.oms.complaints import BadRow
+from outage_tools.oms.files import Row, add_format_arguments, format_of
+from outage_tools.oms.known import known_of
 from outage_tools.oms.told import lines_of_notes
 from outage_tools.oms.writing import whole_file
+from outage_tools.sections.changed import Change, There, there_of
 from outage_tools.sections.cim import read_cim
 from outage_tools.sections.cut import Choice
 from outage_tools.sections.edges import DEVICE_KINDS, Labels, labels_of
 from outage_tools.sections.loads import numbers_in, take_customers
-from outage_tools.sections.model import Earlier, Maker, Model
+from outage_tools.sections.making import Maker
+from outage_tools.sections.model import Earlier, Model
 from outage_tools.sections.opendss import read_opendss
 from outage_tools.sections.reading import Reading, Tickets, read_customers, read_edges, read_sources, read_tickets
 from outage_tools.sections.words import kinds_argument, word_argument, words_of
-from outage_tools.sections.writing import report_lines, tables_of, write_tables
+from outage_tools.sections.writing import Table, report_lines, tables_of, write_tables
 
 
 def make_parser() -> Parser:
@@ -56,6 +62,11 @@ def make_parser() -> Parser:
     parser.add_argument(
         "--as", dest="earlier", metavar="FOLDER", type=Path, help="the folder of an earlier run, whose names stay"
     )
+    parser.add_argument(
+        "--book", metavar="FILE", help="the book that was made of the earlier run: what changed since then"
+    )
+    parser.add_argument("--at", metavar="MOMENT", help="from when the network is as this export has it")
+    add_table_arguments(parser)
     parser.add_argument(
         "--since", metavar="DATE", help="from when the loads of a model are served, if no customers are given"
     )
@@ -97,16 +108,24 @@ def add_cut_arguments(parser: Parser) -> None:
 
 def earlier_of(folder: Path | None) -> Earlier:
     """What an earlier run named."""
+    found = Earlier()
     if folder is None:
-        return Earlier()
-    names = read_rows(str(folder / "names.csv"), ("label", "became", "name"))
-    feeders = read_rows(str(folder / "feeders.csv"), ("feeder", "name"))
+        return found
     try:
-        numbers = {row["name"]: int(row["feeder"]) for row in feeders}
-        customers = {row["label"]: numbers_in(row["name"]) for row in names if row["became"] == "customers"}
+        for row in read_rows(str(folder / "names.csv"), ("label", "kind", "became", "name")):
+            if row["became"] == "device":
+                found.names.setdefault(row["label"], []).append(row["name"])
+            elif row["became"] == "customers":
+                found.customers[row["label"]] = numbers_in(row["name"])
+            elif row["name"]:
+                found.became[row["label"]] = row["name"]
+            if row["kind"] == "meter":
+                found.meters.append(row["label"])
+        feeders = read_rows(str(folder / "feeders.csv"), ("feeder", "name"))
+        found.feeders = {row["name"]: int(row["feeder"]) for row in feeders}
     except ValueError as error:
         raise BookError(f"{folder} has a number that is none: {error}") from None
-    return Earlier({row["label"]: row["name"] for row in names if row["became"] == "device"}, numbers, customers)
+    return found
 
 
 def joined_of(names: list[str], labels: Labels) -> frozenset[str]:
@@ -159,26 +178,62 @@ def print_summary(model: Model, folder: Path, files: list[str]) -> None:
     print(f"written to {folder}: {', '.join(files)}")
 
 
+def make(args: argparse.Namespace, reading: Reading, said: list[str]) -> tuple[Model, dict[str, Table]]:
+    """Reads all, and makes what is written."""
+    tickets = read_all(args, reading)
+    earlier = earlier_of(args.earlier)
+    numbers = {} if args.customers else take_customers(reading.raw, args.since, earlier.customers)
+    there = book_of(args) if args.book else None
+    made = Maker(reading, choice_of(args, reading, tickets), earlier, args.meshed, there, said).model(tickets)
+    change = Change(there, made, reading.complaints, said) if there else None
+
+    def name_in(row: Row, label: str) -> str:
+        """That of the row's moments, where the device has had several in the book."""
+        name = made.names[label][0]
+        if change:
+            with reading.complaints.about(row):
+                name = change.name_in(row, label)
+        return name
+
+    return made, tables_of(made, reading, tickets, numbers, name_in)
+
+
+def book_of(args: argparse.Namespace) -> There:
+    with open_book(args.book, args.table, args.program) as found:
+        try:
+            return there_of(known_of(found), args.at, tuple(args.dates))
+        except BadRow as error:
+            raise BookError(str(error)) from None
+
+
 def job(args: argparse.Namespace, reading: Reading) -> None:
+    said: list[str] = []
     try:
-        tickets = read_all(args, reading)
-        earlier = earlier_of(args.earlier)
-        numbers = {} if args.customers else take_customers(reading.raw, args.since, earlier.customers)
-        made = Maker(reading, choice_of(args, reading, tickets), earlier, args.meshed).model(tickets)
-        tables = tables_of(made, reading, tickets, numbers)
+        made, tables = make(args, reading, said)
+        tables = {name: (columns, list(rows)) for name, (columns, rows) in tables.items()}
+        reading.refuse()
         write_tables(args.output, tables)
     finally:
         if args.report:
             with whole_file(args.report) as file:
-                file.writelines(f"{line}\n" for line in report_lines(reading))
+                file.writelines(f"{line}\n" for line in report_lines(reading, said))
     print_summary(made, args.output, list(tables))
-    for line in lines_of_notes(reading.files):
+    for line in (*lines_of_notes(reading.files), *(f"{args.book}: {each}" for each in said)):
         print_error(f"note: {line}")
+
+
+def check_words(parser: Parser, args: argparse.Namespace) -> None:
+    """Words that don't go together end the run."""
+    if (args.book is None) != (args.at is None):
+        parser.error("--book and --at go together")
+    if args.book and not args.earlier:
+        parser.error("--book wants --as: the folder of the run of which the book was made")
 
 
 def main() -> int:
     parser = make_parser()
     args = parser.parse_args()
+    check_words(parser, args)
     try:
         words = words_of(args.words)
     except ValueError as error:

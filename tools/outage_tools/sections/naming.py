@@ -22,12 +22,11 @@ def told_apart(name: str, label: str) -> str:
     return f"{name[:MOST_NAME - DIGITS - 1]}-{digest}"
 
 
-def book_names(labels: Iterable[str], earlier: dict[str, str]) -> dict[str, str]:
+def book_names(labels: Iterable[str], earlier: dict[str, str], taken: set[str]) -> dict[str, str]:
     """The name of each label: that of an earlier run; else the label itself, where it is one; else in capitals and with -, and
     shortened or with digits where it is too long or where another label would have it too."""
     labels = list(labels)
     found = {label: earlier[label] for label in labels if label in earlier}
-    taken = set(earlier.values())
     alike: dict[str, list[str]] = defaultdict(list)
     for label in labels:
         if label not in found:
