@@ -142,9 +142,9 @@ class Grid:
             self.tickets.append((f"LATE-{number}", 1, edge, out, out + 700 * number))
 
     def is_lateral(self, line: RawEdge) -> bool:
-        """A fuse lies at one of its ends."""
-        ends = {line.a, line.b}
-        return any(each.kind == "fuse" and ends & {each.a, each.b} for each in self.edges)
+        """A fuse lies at one of its ends, and a transformer at the other."""
+        at = [{each.kind for each in self.edges if end in (each.a, each.b)} for end in (line.a, line.b)]
+        return any("fuse" in one and "transformer" in other for one, other in (at, at[::-1]))
 
     # Making tickets.
 

@@ -42,11 +42,12 @@ class Given(unittest.TestCase):
         self.assertEqual(found.became["LN/3"], ("section", "S-FU-34"))
         self.assertEqual(found.became["FU 34"], ("device", "FU-34"))
         self.assertEqual(
-            found.out.splitlines()[:3],
+            found.out.splitlines()[:4],
             [
-                "15 edges: 6 line, 4 transformer, 2 breaker, 1 busbar, 1 fuse, 1 switch",
-                "1 buses, 6 sections, 2 feeders; 8 devices, 1 of them normally open",
-                "4 customers on 3 sections",
+                "edges 15: line 6, transformer 4, breaker 2, busbar 1, fuse 1, switch 1",
+                "buses 1, sections 6, feeders 2",
+                "devices 8, of these normally open 1",
+                "customers 4, on sections 3",
             ],
         )
 
@@ -279,6 +280,18 @@ class Refused(unittest.TestCase):
         meshed = cut("--meshed", edges=edges)
         self.assertEqual(meshed.status, 0)
         self.assertIn(f"network-edges.csv: noticed: {ring}: 1 (row 4)", meshed.said)
+
+    def test_a_loop_in_which_two_circuits_meet(self) -> None:
+        """The walk comes from both sides into one section."""
+        edges = changed(
+            (
+                "SW-9,switch,N12,N22,open,7",
+                "SW-71,switch,N12,N50,closed,7\nLN/5,line,N50,N51,,7\nSW-9,switch,N51,N22,closed,7",
+            )
+        )
+        ring = "a loop of closed devices: CB-7 (row 4), SW-71 (row 12), SW-9 (row 14), CB-8 (row 15)"
+        self.refused(edges, f"row 4: {ring}; between two circuits: SW-9")
+        self.assertEqual(cut("--meshed", edges=edges).status, 0)
 
     def test_two_transformers_in_parallel(self) -> None:
         edges = EDGES + "T2,transformer,N1,N2,,\n"

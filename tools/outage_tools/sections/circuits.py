@@ -62,18 +62,31 @@ def note_differences(raw: Raw, circuits: Circuits, notes: dict[str, Notes]) -> N
 
 
 def area_circuits(cut: Cut, circuits: Circuits, complaints: Complaints) -> dict[int, str]:
-    """The circuit of each area that is fed; a bus has none. One in which two begin without a device between them is refused."""
-    found: dict[int, set[str]] = defaultdict(set)
+    """The circuit of each area that is fed; a bus has none. One in which two begin without a device between them is refused. Where
+    a loop brings two into one area, it is that of the device that feeds it."""
+    names: dict[int, set[str]] = defaultdict(set)
+    heads: dict[int, list[Edge]] = defaultdict(list)
     for node, circuit in circuits.at.items():
-        found[cut.area[node]].add(circuit)
-    del found[GRID_AREA]
-    for area, names in found.items():
-        if len(names - {""}) > 1:
-            heads = [edge for node, edge in circuits.heads.items() if cut.area[node] == area]
-            others = " and ".join(f"{edge.circuit} at {edge.told}" for edge in heads[1:])
-            text = f"circuit {heads[0].circuit} begins at {heads[0].name}, and {others}, with no device between them"
-            complaints.add(heads[0].spot, text)
-    return {area: max(names) for area, names in found.items()}
+        names[cut.area[node]] |= {circuit} - {""}
+    for node, edge in circuits.heads.items():
+        heads[cut.area[node]].append(edge)
+    del names[GRID_AREA]
+    found = {}
+    for area, listed in names.items():
+        begun = {edge.circuit: edge for edge in heads[area]}
+        if len(begun) > 1:
+            first, *others = begun.values()
+            others_text = " and ".join(f"{edge.circuit} at {edge.told}" for edge in others)
+            text = f"circuit {first.circuit} begins at {first.name}, and {others_text}, with no device between them"
+            complaints.add(first.spot, text)
+        found[area] = circuit_by_device(cut, circuits, area) if len(listed) > 1 else max(listed, default="")
+    return found
+
+
+def circuit_by_device(cut: Cut, circuits: Circuits, area: int) -> str:
+    """The circuit at the end of the device that feeds an area."""
+    edge = cut.devices[cut.feeding(area) or ""]
+    return circuits.at[edge.a if cut.area[edge.a] == area else edge.b]
 
 
 def note_mixed(cut: Cut, circuits: Circuits, of_area: dict[int, str], notes: dict[str, Notes]) -> None:

@@ -166,15 +166,14 @@ def choice_of(args: argparse.Namespace, reading: Reading, tickets: Tickets | Non
 def print_summary(model: Model, folder: Path, files: list[str]) -> None:
     """How much there was, and how much there is."""
     kinds = Counter(edge.kind for edge in model.raw.edges.values())
-    sections = sum(node.feeder is not None for node in model.nodes)
-    closed = sum(device.is_closed for device in model.devices)
-    print(f"{len(model.raw.edges)} edges: {', '.join(f'{count} {kind}' for kind, count in kinds.most_common())}")
-    print(
-        f"{len(model.nodes) - sections} buses, {sections} sections, {len(model.feeders)} feeders;"
-        f" {len(model.devices)} devices, {len(model.devices) - closed} of them normally open"
+    print(f"edges {len(model.raw.edges)}: {', '.join(f'{kind} {count}' for kind, count in kinds.most_common())}")
+    nodes, devices = Counter(node.feeder is None for node in model.nodes), Counter(
+        each.is_closed for each in model.devices
     )
+    print(f"buses {nodes[True]}, sections {nodes[False]}, feeders {len(model.feeders)}")
+    print(f"devices {devices.total()}, of these normally open {devices[False]}")
     if model.raw.has_customers:
-        print(f"{len(model.sections)} customers on {len(set(model.sections.values()))} sections")
+        print(f"customers {len(model.sections)}, on sections {len(set(model.sections.values()))}")
     print(f"written to {folder}: {', '.join(files)}")
 
 
