@@ -150,7 +150,7 @@ class Install(unittest.TestCase):
             "make",
             "next-year",
         ]
-        tools += ["report", "sum", "try", "warehouse", "years"]
+        tools += ["report", "sections", "sum", "try", "warehouse", "years"]
         self.assertEqual(
             sorted(path.name for path in (prefix / "bin").iterdir()),
             sorted(["outagebook", "outagebook-screen", *(f"outagebook-{tool}" for tool in tools)]),

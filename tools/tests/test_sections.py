@@ -155,6 +155,12 @@ class Names(unittest.TestCase):
         self.assertRegex(found.became["FU-34"][1], "^FU-34-[0-9A-F]{6}$")
         self.assertEqual(found.files["feeders.csv"], [["1", "Elm"], ["2", "Oak"], ["3", "Ash"]])
 
+    def test_numbers_of_circuits_stay_their_own(self) -> None:
+        run("--edges", written("edges", EDGES), "--source", "N0", to="earlier-numbers")
+        more = EDGES + "CB-9,breaker,N3,N50,closed,9\n"
+        found = cut("--as", support.folder() / "earlier-numbers", edges=more)
+        self.assertEqual(found.files["feeders.csv"], [["7", "7"], ["8", "8"], ["9", "9"]])
+
 
 class Feeders(unittest.TestCase):
     def test_a_wrong_circuit(self) -> None:

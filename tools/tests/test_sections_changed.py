@@ -168,12 +168,42 @@ class ByHand(unittest.TestCase):
         self.assertEqual(
             self.said(found),
             [
-                "S-XF3 isn't in the export any more, and stays in the book; customers there: 1",
+                "S-XF3 isn't in the export any more; customers of the book there, without supply: 1",
                 "the device SW-9 isn't in the export any more, and ends",
                 "the device XF3 isn't in the export any more, and ends",
             ],
         )
         self.assertEqual(self.rows(found), ["life,GIS-LIFE-SW-9,SW-9,,2025-06-01", "life,GIS-LIFE-XF3,XF3,,2025-06-01"])
+
+    def test_tickets_of_what_is_gone(self) -> None:
+        """They have the name that it had, also in the export after the next."""
+        row = "1,fu 34,2025-05-01 01:00,2025-05-01 02:00,WIND"
+        changes = ("FU 34,fuse,N13,N11,closed,7", "LN/3b,line,N13,N11,,7")
+        found = self.later(changes, oms=(row,))
+        self.assertEqual(found.files["oms.csv"][0][1], "FU-34")
+        self.assertIn(["FU 34", "gone", "device", "FU-34"], found.files["names.csv"])
+        reason = "rows that name a device of the earlier run, which the export hasn't any more: 1 (row 1)"
+        self.assertIn(f"network-oms.csv: noticed: {reason}", found.said)
+        folder = kept("by-hand-gone", found)
+        words = [*words_of(changed(changes), oms=(row,)), "--as", folder, *self.first.words[2:], "--at", AT]
+        self.assertEqual(run(*words).files["oms.csv"][0][1], "FU-34")
+
+    def test_a_coarse_network(self) -> None:
+        """Devices that the book has stay, also where this export's tickets don't name them."""
+        ticket = "1,FU 34,2025-05-01 01:00,2025-05-01 02:00,WIND"
+        words = [each if each != "--oms" else "--only-opened" for each in words_of(oms=(ticket,))]
+        first = before("coarse", *words)
+        words = [
+            each if each != "--oms" else "--only-opened" for each in words_of(oms=(ticket.replace("FU 34", "XF2"),))
+        ]
+        found = run(*words, *first.words, "--at", AT)
+        self.assertEqual((found.status, found.customers["3"]), (0, "S-CB-7"))  # where the book has it: behind XF2 now
+        self.assertEqual(found.devices["XF2"][1], "S-CB-7")
+        words = [each if each != "--oms" else "--only-opened" for each in words_of()]
+        found = run(*words, *first.words, "--at", AT)
+        self.assertEqual(
+            ({*found.devices}, [line for line in found.said if ".db" in line]), ({"CB-7", "FU-34", "SW-9", "CB-8"}, [])
+        )
 
     def test_a_section_that_is_cut_in_two(self) -> None:
         """It is where its customers are; those on the other part would have to end and begin anew, and are told."""

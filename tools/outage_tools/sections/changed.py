@@ -155,9 +155,14 @@ class Change:
             nodes.append(node)
         self.model.nodes = nodes
         gone = self.there.nodes.keys() - {node.name for node in nodes}
+        at = self.there.at
         for name in sorted(gone):
-            count = sum(service.section == name for service in self.there.customers.values())
-            self.said.append(f"{name} isn't in the export any more, and stays in the book; customers there: {count}")
+            services = [each for each in self.there.customers.values() if each.section == name]
+            count = sum(each.since <= at and (each.until is None or at < each.until) for each in services)
+            if count:
+                self.said.append(
+                    f"{name} isn't in the export any more; customers of the book there, without supply: {count}"
+                )
 
     def rows_of(self, row: DeviceRow) -> Iterator[DeviceRow]:
         """The row of a device that is as it was; else of its end and of its beginning under a further name."""
@@ -199,7 +204,8 @@ class Change:
 
     def new_name(self, label: str, names: list[str]) -> str:
         """The first name of a device with a number that nothing has."""
-        taken = {*self.there.devices, *self.there.nodes, *(each for listed in self.names.values() for each in listed)}
+        told = (*self.names.values(), *self.model.gone.values())
+        taken = {*self.there.devices, *self.there.nodes, *(each for listed in told for each in listed)}
         for number in range(2, 1_000):
             name = f"{names[0]}-{number}"
             name = name if len(name) <= MOST_NAME else told_apart(name, f"{label} {number}")
@@ -211,7 +217,7 @@ class Change:
 
     def name_at(self, label: str, second: int) -> str:
         """The name of a device at a second."""
-        names = self.names[label]
+        names = self.model.names_of(label)
         new = {
             row.name for row in self.model.devices if row.label == label and row.since == self.there.text(self.there.at)
         }
@@ -224,7 +230,7 @@ class Change:
 
     def name_in(self, row: Row, label: str) -> str:
         """The name of the device that a ticket's row switched; one that changes while it is switched is refused."""
-        names = self.names[label]
+        names = self.model.names_of(label)
         if len(names) == 1:
             return names[0]
         zone = read_zone(row["zone"]) if row["zone"] else self.there.zone

@@ -100,10 +100,11 @@ def note_mixed(cut: Cut, circuits: Circuits, of_area: dict[int, str], notes: dic
 
 
 def numbers_of(circuits: list[str], earlier: dict[str, int]) -> dict[str, int]:
-    """The feeder's number of each circuit: that of an earlier run, else its own if all are numbers, else the next one that is
-    free, in the order of the circuits' names."""
-    if not earlier and all(name.isdecimal() and 1 <= int(name) <= MOST_FEEDERS for name in circuits):
-        return {name: int(name) for name in circuits}
+    """The feeder's number of each circuit: its own if all are numbers, and were in an earlier run; else that of the earlier run, or
+    the next one that is free, in the order of the circuits' names."""
+    own = {name: int(name) for name in circuits if name.isdecimal() and 1 <= int(name) <= MOST_FEEDERS}
+    if len(own) == len(circuits) and all(name == str(number) for name, number in earlier.items()):
+        return own
     found = {name: earlier[name] for name in circuits if name in earlier}
     taken = set(earlier.values())
     free = (number for number in range(1, len(circuits) + len(taken) + 1) if number not in taken)

@@ -188,7 +188,7 @@ def make(args: argparse.Namespace, reading: Reading, said: list[str]) -> tuple[M
 
     def name_in(row: Row, label: str) -> str:
         """That of the row's moments, where the device has had several in the book."""
-        name = made.names[label][0]
+        name = made.names_of(label)[0]
         if change:
             with reading.complaints.about(row):
                 name = change.name_in(row, label)

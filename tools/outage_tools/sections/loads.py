@@ -31,9 +31,11 @@ def own_number(load: Load) -> int | None:
 
 
 def numbers_of(raw: Raw, earlier: Numbers) -> Numbers:
-    """The numbers of customers: those of an earlier run, else the names if all are numbers, else the next that are free."""
+    """The numbers of customers: the names if all are numbers, and were in an earlier run; else those of the earlier run, or the next
+    that are free."""
     own = [own_number(load) for load in raw.loads.values()]
-    if not earlier and len(set(own) - {None}) == len(own):
+    were_own = all(numbers == [int(name)] if name.isdecimal() else False for name, numbers in earlier.items())
+    if were_own and len(set(own) - {None}) == len(own):
         return {load.name: [number] for load, number in zip(raw.loads.values(), own) if number is not None}
     free = max((number for numbers in earlier.values() for number in numbers), default=0) + 1
     found: Numbers = {}

@@ -65,7 +65,7 @@ class Maker:
     def named(self, tickets: Tickets | None) -> Named:
         """What the tickets name; meters that had a section in an earlier run keep it."""
         raw = self.reading.raw
-        found = named_in(raw, tickets, self.reading.complaints) if tickets else Named()
+        found = named_in(raw, tickets, self.earlier.names, self.reading.complaints) if tickets else Named()
         for meter in self.earlier.meters:
             if any(each.meter == meter for each in raw.customers):
                 found.meters.setdefault(meter, [])
@@ -88,7 +88,7 @@ class Maker:
                 edge = raw.edges[label]
                 notes[edge.spot.file].changed("labels that became other names of devices", edge.spot)
         if tickets:
-            note_names(raw, named, set(made.names), notes[tickets.path])
+            note_names(raw, named, {row.label for row in made.devices}, notes[tickets.path])
 
     def note(self, cut: Cut, notes: dict[str, Notes]) -> None:
         """Tells the edges that are no devices though their kind is, and the open ones that are though theirs isn't."""
@@ -122,6 +122,7 @@ class Naming:
         labels = [*(edge.name for edge in kept), *self.meters]
         first = book_names(labels, {label: names[0] for label, names in self.earlier.names.items()}, self.further())
         model.names = {label: [name, *self.earlier.names.get(label, ())[1:]] for label, name in first.items()}
+        model.gone = {label: names for label, names in self.earlier.names.items() if label not in model.names}
         self.name_nodes()
         model.devices += [self.device_row(edge) for edge in kept]
         for meter, (area, own) in self.meters.items():

@@ -1,6 +1,7 @@
 """The names in tickets: devices, meters of single services, and what is no device."""
 
 from collections import defaultdict
+from collections.abc import Iterable
 from dataclasses import dataclass, field
 
 from outage_tools.oms.complaints import BadRow, Complaints, Notes
@@ -12,37 +13,39 @@ from outage_tools.sections.reading import Tickets
 
 @dataclass
 class Named:
-    """What the rows of tickets name: edges, meters with their customers, and rows of neither."""
+    """What the rows of tickets name: edges, meters with their customers, devices that an earlier run had, and rows of none of these."""
 
     edges: dict[str, list[Row]] = field(default_factory=lambda: defaultdict(list))
     meters: dict[str, list[Row]] = field(default_factory=lambda: defaultdict(list))
+    gone: dict[str, list[Row]] = field(default_factory=lambda: defaultdict(list))
     unknown: list[Row] = field(default_factory=list)
     of_row: dict[int, str] = field(default_factory=dict)  # the label that each row means
 
 
-def named_in(raw: Raw, tickets: Tickets, complaints: Complaints) -> Named:
-    """A name is that of an edge, or else of a meter; one of both is refused."""
+def named_in(raw: Raw, tickets: Tickets, earlier: Iterable[str], complaints: Complaints) -> Named:
+    """A name is that of an edge, or of a meter, and one of both is refused; else of a device of an earlier run."""
     found = Named()
     edges, meters = labels_of(raw.edges), labels_of(each.meter for each in raw.customers if each.meter)
+    gone = labels_of(earlier)
     for row in tickets.rows:
         if not row["device"]:
             found.unknown.append(row)
             continue
         with complaints.about(row):
-            take_name(found, row, edges, meters)
+            take_name(found, row, edges, meters, gone)
     return found
 
 
-def take_name(found: Named, row: Row, edges: Labels, meters: Labels) -> None:
+def take_name(found: Named, row: Row, edges: Labels, meters: Labels, gone: Labels) -> None:
     edge, meter = edges.find(row["device"]), meters.find(row["device"])
     if edge is not None and meter is not None:
         raise BadRow(f"{row['device']} is an edge and a meter: give one of them another name")
-    label = edge or meter
-    if label is None:
-        found.unknown.append(row)
-        return
-    found.of_row[row.number] = label
-    (found.meters if edge is None else found.edges)[label].append(row)
+    for label, listed in ((edge, found.edges), (meter, found.meters), (gone.find(row["device"]), found.gone)):
+        if label is not None:
+            found.of_row[row.number] = label
+            listed[label].append(row)
+            return
+    found.unknown.append(row)
 
 
 def meter_areas(
@@ -76,5 +79,8 @@ def note_names(raw: Raw, named: Named, devices: set[str], notes: Notes) -> None:
             if label not in devices:
                 kind = raw.edges[label].kind
                 notes.noticed(f"rows that name a {kind} which is no device of the book", row)
+    for rows in named.gone.values():
+        for row in rows:
+            notes.noticed("rows that name a device of the earlier run, which the export hasn't any more", row)
     for row in named.unknown:
         notes.noticed("rows that name neither an edge nor a meter", row)

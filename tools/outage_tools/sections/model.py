@@ -53,4 +53,9 @@ class Model:
     became: dict[str, tuple[str, str]] = field(default_factory=dict)
     names: dict[str, list[str]] = field(default_factory=dict)  # of devices, by their labels: the first one first
     of_row: dict[int, str] = field(default_factory=dict)  # labels, by the rows of tickets
+    gone: dict[str, list[str]] = field(default_factory=dict)  # of devices that an earlier run had
     has_lives: bool = False  # rows of devices may tell a life
+
+    def names_of(self, label: str) -> list[str]:
+        """The names of a device, or of one that was there."""
+        return self.names.get(label, self.gone.get(label, []))

@@ -40,6 +40,8 @@ def name_rows(model: Model, customers: Numbers) -> Iterator[tuple[object, ...]]:
         edge = model.raw.edges.get(label)
         for each in model.names[label] if what == "device" else [name]:
             yield label, edge.kind if edge else "meter", what, each
+    for label, names in model.gone.items():
+        yield from ((label, "gone", "device", name) for name in names)
     for label, numbers in customers.items():
         yield label, "load", "customers", numbers_text(numbers)
 
@@ -48,7 +50,7 @@ def ticket_rows(model: Model, tickets: Tickets, name_in: NameIn) -> Iterator[tup
     """The rows of tickets, with devices by their names in the book; the others as they came."""
     for row in tickets.rows:
         label = model.of_row.get(row.number, "")
-        name = name_in(row, label) if label in model.names else row["device"]
+        name = name_in(row, label) if model.names_of(label) else row["device"]
         yield tuple(name if column == "device" else row[column] for column in tickets.columns)
 
 
