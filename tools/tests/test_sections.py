@@ -298,6 +298,14 @@ class Refused(unittest.TestCase):
         ring = "a loop of closed devices: CB-7 (row 4), SW-71 (row 12), SW-9 (row 14), CB-8 (row 15)"
         self.refused(edges, f"row 4: {ring}; between two circuits: SW-9")
         self.assertEqual(cut("--meshed", edges=edges).status, 0)
+        on_it = edges + "SW-12,switch,N15,N16,closed,7\n"
+        self.assertEqual(
+            cut("--meshed", edges=on_it).said,
+            [
+                f"network-customers.csv: row {row}: {name} lies on a loop, so no side of it is away from the source"
+                for row, name in ((1, "XF1 (row 9)"), (2, "XF1 (row 9)"), (3, "XF2 (row 11)"))
+            ],
+        )
 
     def test_two_transformers_in_parallel(self) -> None:
         edges = EDGES + "T2,transformer,N1,N2,,\n"

@@ -1,6 +1,7 @@
 """Made utilities, cut: the book of the cut has the figures of a count on the raw edges, customer by customer."""
 
 import os
+import random
 import unittest
 from collections import defaultdict
 from fractions import Fraction
@@ -113,6 +114,86 @@ class Made(unittest.TestCase):
 
     def test_many_edges(self) -> None:
         self.compare("many", "large", "--only-opened")
+
+
+KINDS = ("line", "line", "line", "busbar", "transformer", "fuse", "switch", "breaker")
+Joined = dict[str, tuple[str, str]]
+
+
+def reached(edges: Joined, is_closed: dict[str, bool], start: set[str]) -> set[str]:
+    """The nodes to which a walk of closed edges leads."""
+    found = set(start)
+    while more := {
+        node
+        for name, ends in edges.items()
+        if is_closed[name] and found & {*ends}
+        for node in ends
+        if node not in found
+    }:
+        found |= more
+    return found
+
+
+class Random(unittest.TestCase):
+    """Small networks drawn at random, most of them with mistakes: refused by rows, or cut so that whichever devices are switched,
+    the same customers are supplied as on the raw edges."""
+
+    def drawn(self, seed: int) -> tuple[list[str], list[str], Joined, dict[str, bool], dict[str, str]]:
+        draw = random.Random(seed)
+        nodes = [f"n{number}" for number in range(draw.randint(3, 12))]
+        lines, edges, is_closed = ["name,kind,from,to,normal,circuit"], Joined(), {}
+        for number in range(draw.randint(len(nodes) - 1, len(nodes) + 2)):
+            near = nodes[draw.randrange(number + 1)] if number < len(nodes) - 1 else draw.choice(nodes)
+            far = nodes[number + 1] if number < len(nodes) - 1 else draw.choice(nodes)
+            kind, ends = draw.choice(KINDS), draw.sample([near, far], 2)
+            position = draw.choice(("closed",) * 9 + ("open",)) if kind in ("fuse", "switch", "breaker") else ""
+            if number >= len(nodes) - 1 and draw.random() < 0.7:
+                kind, position = "switch", "open"
+            circuit = draw.choice(("", "1", "1", "1", "2")) if number else draw.choice(("", "1"))
+            lines.append(f"E{number},{kind},{','.join(ends)},{position},{circuit}")
+            edges[f"E{number}"] = ends[0], ends[1]
+            is_closed[f"E{number}"] = position != "open"
+        transformers = [line.split(",")[0] for line in lines if ",transformer," in line]
+        register = {str(number): draw.choice(transformers) for number in range(1, 4)} if transformers else {}
+        customers = ["customer,transformer,since,until", *(f"{each},{by},2020-01-01," for each, by in register.items())]
+        return lines, customers, edges, is_closed, register
+
+    def test_they_are_refused_or_cut(self) -> None:
+        cut_whole = 0
+        for seed in range(2_000 if IS_LONG else 300):
+            lines, customers, edges, is_closed, register = self.drawn(seed)
+            draw = random.Random(seed)
+            files = [
+                support.written(f"random-{name}.csv", "\n".join(text) + "\n")
+                for name, text in (("e", lines), ("c", customers))
+            ]
+            words = draw.choice(((), (), ("--meshed",), ("--device", "fuse,breaker")))
+            found = run("--edges", files[0], "--customers", files[1], "--source", "n0", *words)
+            if found.status:
+                self.assertTrue(found.err.startswith("error: "), f"{seed}: {found.err}")
+                continue
+            cut_whole += 1
+            self.compare(seed, found, edges, is_closed, register)
+        self.assertGreater(cut_whole, 30)
+
+    def compare(
+        self, seed: int, found: Cut, edges: Joined, is_closed: dict[str, bool], register: dict[str, str]
+    ) -> None:
+        draw = random.Random(seed)
+        devices = {name: (a, b) for name, (a, b, _) in found.devices.items()}
+        for _ in range(8):
+            positions = is_closed | {name: draw.random() < 0.7 for name in devices}
+            raw = reached(edges, positions, {"n0"})
+            of_book = reached(devices, positions, {"GRID"})
+            for customer, transformer in register.items():
+                far = self.far_side(transformer, edges, is_closed)
+                self.assertEqual(found.customers[customer] in of_book, far in raw, (seed, customer))
+
+    def far_side(self, transformer: str, edges: Joined, is_closed: dict[str, bool]) -> str:
+        """The end that isn't reached without the transformer, where there is one; else either."""
+        without = reached(edges, is_closed | {transformer: False}, {"n0"})
+        a, b = edges[transformer]
+        return a if a not in without else b
 
 
 if __name__ == "__main__":

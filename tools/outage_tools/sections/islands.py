@@ -179,10 +179,15 @@ def rings_of(cut: Cut) -> Iterator[list[Edge]]:
 
 
 def look_at_loops(
-    cut: Cut, of_area: dict[int, str], is_meshed: bool, complaints: Complaints, notes: dict[str, Notes]
+    cut: Cut,
+    rings: list[list[Edge]],
+    of_area: dict[int, str],
+    is_meshed: bool,
+    complaints: Complaints,
+    notes: dict[str, Notes],
 ) -> None:
     """Refuses loops of closed devices, each with its ring and with those of it that join two circuits."""
-    for ring in rings_of(cut):
+    for ring in rings:
         text = f"a loop of closed devices: {', '.join(edge.told for edge in ring)}"
         between = [
             edge.name for edge in ring if len({of_area.get(area, "") for area in cut.areas_of(edge)} - {""}) == 2

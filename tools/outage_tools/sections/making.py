@@ -16,7 +16,7 @@ from outage_tools.sections.circuits import (
 )
 from outage_tools.sections.cut import GRID_AREA, Choice, Cut, cut_of
 from outage_tools.sections.edges import Edge
-from outage_tools.sections.islands import look_at_islands, look_at_loops
+from outage_tools.sections.islands import look_at_islands, look_at_loops, rings_of
 from outage_tools.sections.meters import Named, meter_areas, named_in, note_names
 from outage_tools.sections.model import DeviceRow, Earlier, Model, NodeRow
 from outage_tools.sections.naming import BUS, SECTION, book_names, node_name
@@ -43,10 +43,12 @@ class Maker:
         circuits = circuits_of(raw)
         cut = cut_of(raw, self.chosen(circuits))
         of_area = area_circuits(cut, circuits, reading.complaints)
-        placed = placed_of(cut, reading.complaints)
+        rings = list(rings_of(cut))
+        looped = frozenset(edge.name for ring in rings for edge in ring) if self.is_meshed else frozenset()
+        placed = placed_of(cut, reading.complaints, looped)
         refuse_without_feeder(cut, placed, of_area, reading.complaints)
         left = look_at_islands(cut, placed, set(named.edges), reading.complaints, notes)
-        look_at_loops(cut, of_area, self.is_meshed, reading.complaints, notes)
+        look_at_loops(cut, rings, of_area, self.is_meshed, reading.complaints, notes)
         meters = meter_areas(raw, placed, named, max(cut.area.values()) + 1, reading.complaints)
         reading.refuse()
         self.note(cut, notes)

@@ -6,7 +6,7 @@ from dataclasses import dataclass, field
 from outage_tools.oms.complaints import BadRow, Complaints
 from outage_tools.oms.fields import shown
 from outage_tools.sections.cut import GRID_AREA, Cut
-from outage_tools.sections.edges import TRANSFORMER, Customer, Edge, Labels, Raw, labels_of
+from outage_tools.sections.edges import TRANSFORMER, Customer, Edge, Labels, labels_of
 
 
 @dataclass
@@ -21,35 +21,32 @@ class Placed:
         self.customers[area].append(customer)
 
 
-def away_side(cut: Cut, edge: Edge) -> int:
+def away_side(cut: Cut, edge: Edge, looped: frozenset[str]) -> int:
     """The area on the side of a transformer away from the source. In what no source feeds it is the end that is told second."""
     a, b = cut.areas_of(edge)
     if a == b:
         return a
+    if edge.name in looped:
+        raise BadRow(f"{edge.told} lies on a loop, so no side of it is away from the source")
     if edge.is_closed:
-        for here, there in ((a, b), (b, a)):
-            if cut.feeding(here) == edge.name:
-                return here
-        if cut.is_fed(a) and cut.is_fed(b):
-            raise BadRow(f"{edge.told} lies on a loop, so no side of it is away from the source")
-        return b
+        return a if cut.feeding(a) == edge.name else b
     if cut.is_fed(a) and cut.is_fed(b):
         raise BadRow(f"{edge.told} is normally open and fed on both sides, so none is away from the source")
     return a if cut.is_fed(b) else b
 
 
-def area_of_transformer(cut: Cut, raw: Raw, labels: Labels, label: str) -> int:
+def area_of_transformer(cut: Cut, labels: Labels, label: str, looped: frozenset[str]) -> int:
     name = labels.find(label)
     if name is None:
         raise BadRow(f"no edge is called {shown(label)}")
-    edge = raw.edges[name]
+    edge = cut.raw.edges[name]
     if edge.kind != TRANSFORMER:
         raise BadRow(f"{edge.told} is a {edge.kind}, and no transformer")
-    return away_side(cut, edge)
+    return away_side(cut, edge, looped)
 
 
-def placed_of(cut: Cut, complaints: Complaints) -> Placed:
-    """Where each customer is; those that nothing in the network has are refused."""
+def placed_of(cut: Cut, complaints: Complaints, looped: frozenset[str]) -> Placed:
+    """Where each customer is; those that nothing in the network has are refused, and those on a transformer of loops that are meant."""
     raw, found = cut.raw, Placed()
     labels = labels_of(raw.edges)
     for number, customer in enumerate(raw.customers):
@@ -59,7 +56,7 @@ def placed_of(cut: Cut, complaints: Complaints) -> Placed:
                     raise BadRow(f"no edge has the node {shown(customer.node)}")
                 area = cut.area[customer.node]
             else:
-                area = area_of_transformer(cut, raw, labels, customer.transformer)
+                area = area_of_transformer(cut, labels, customer.transformer, looped)
             found.add(number, customer, area)
     return found
 
