@@ -150,7 +150,7 @@ class Install(unittest.TestCase):
             "make",
             "next-year",
         ]
-        tools += ["pack", "report", "sum", "try", "verify", "warehouse", "workbook", "years"]
+        tools += ["pack", "report", "sections", "sum", "try", "verify", "warehouse", "workbook", "years"]
         self.assertEqual(
             sorted(path.name for path in (prefix / "bin").iterdir()),
             sorted(["outagebook", "outagebook-screen", *(f"outagebook-{tool}" for tool in tools)]),

@@ -44,11 +44,11 @@ def range_text(begin: int, end: int) -> str:
     return str(begin) if begin == end else f"{begin}-{end}"
 
 
-def rows_text(rows: list[int]) -> str:
+def rows_text(rows: list[int], most: int | None = MOST_RANGES) -> str:
     """Rows in a line of text, not all of many."""
     ranges = list(ranges_of(rows))
-    more = ["..."] if len(ranges) > MOST_RANGES else []
-    return f"row{'s' if len(set(rows)) > 1 else ''} {', '.join(ranges[:MOST_RANGES] + more)}"
+    more = ["..."] if most is not None and len(ranges) > most else []
+    return f"row{'s' if len(set(rows)) > 1 else ''} {', '.join(ranges[:most] + more)}"
 
 
 def lines_of_notes(files: Iterable[Notes]) -> Iterator[str]:

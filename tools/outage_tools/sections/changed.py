@@ -1,0 +1,248 @@
+"""A network that changed, against a book: what the book has keeps its names, and devices that are otherwise end and begin anew.
+
+No command changes a device's ends, its normal position, a section's feeder or a customer's section. So a device that is otherwise ends
+at a moment, and another one begins under a further name; sections keep the names under which the book has their customers. What can't
+be said is refused by its row, or told.
+"""
+
+from collections import defaultdict
+from collections.abc import Iterator
+from dataclasses import dataclass, field, replace
+
+from outage_tools.normal_state import SOURCE
+from outage_tools.oms.complaints import BadRow, Complaints
+from outage_tools.oms.conversion import MOST_NAME
+from outage_tools.oms.fields import moment_text, read_moment, read_zone
+from outage_tools.oms.files import Row, Spot
+from outage_tools.oms.known import Known, Service
+from outage_tools.sections.cut import GRID_AREA, Cut
+from outage_tools.sections.model import DeviceRow, Model, NodeRow
+from outage_tools.sections.naming import told_apart
+from outage_tools.sections.placing import Placed
+from outage_tools.zone import Zone
+
+
+@dataclass(frozen=True)
+class Life:
+    """A device of the book: the names of its nodes, its normal position, and the seconds of its life."""
+
+    ends: frozenset[str]
+    is_closed: bool
+    since: int
+    until: int | None
+
+    def has(self, second: int) -> bool:
+        return self.since <= second and (self.until is None or second < self.until)
+
+
+@dataclass
+class There:
+    """What the book has, and the second from which the network is as the export has it."""
+
+    zone: Zone
+    at: int
+    nodes: dict[str, int | None] = field(default_factory=dict)  # with the feeders of sections
+    devices: dict[str, Life] = field(default_factory=dict)
+    ends: dict[str, tuple[str, str]] = field(default_factory=dict)
+    customers: dict[int, Service] = field(default_factory=dict)
+    dates: tuple[str, ...] = ()
+
+    def text(self, second: int) -> str:
+        return moment_text(second, self.zone)
+
+
+def there_of(known: Known, at: str, dates: tuple[str, ...]) -> There:
+    book = known.book
+    assert book is not None  # it was opened
+    zone = book.period.zone
+    found = There(zone, read_moment(at, "", zone, "--at", dates), customers=known.customers, dates=dates)
+    for node, name in book.nodes.items():
+        if name != SOURCE:
+            found.nodes[name] = book.sections[node].feeder if node in book.sections else None
+    for each in book.devices:
+        ends = book.nodes[each.a], book.nodes[each.b]
+        found.ends[each.name] = ends
+        found.devices[each.name] = Life(frozenset(ends), each.is_closed, each.since, each.until)
+    return found
+
+
+# Names of buses and sections.
+
+
+def kept_names(
+    there: There, cut: Cut, placed: Placed, of_area: dict[int, str], became: dict[str, str]
+) -> dict[int, str]:
+    """The areas that are a bus or a section of the book: those that have most of its customers, or else most of the edges that lay
+    in it in the earlier run."""
+    votes: dict[tuple[int, str], list[int]] = defaultdict(lambda: [0, 0])
+    for number, area in placed.area.items():
+        service = there.customers.get(number_of(cut.raw.customers[number].number))
+        if service is not None:
+            votes[area, service.section][0] += 1
+    for area, edges in cut.inside().items():
+        for edge in edges:
+            votes[area, became.get(edge.name, "")][1] += 1
+    found: dict[int, str] = {}
+    for (area, name), _ in sorted(votes.items(), key=lambda each: ([-count for count in each[1]], each[0])):
+        is_section = there.nodes.get(name) is not None
+        is_like = (
+            area != GRID_AREA
+            and name in there.nodes
+            and is_section == bool(of_area.get(area) or area not in cut.reached)
+        )
+        if is_like and area not in found and name not in found.values():
+            found[area] = name
+    return found
+
+
+def number_of(text: str) -> int:
+    """A customer's number, or one that no customer has."""
+    return int(text) if text.isdecimal() else 0
+
+
+# Rows.
+
+
+@dataclass
+class Change:
+    """Turns the model into rows that the book takes."""
+
+    there: There
+    model: Model
+    complaints: Complaints
+    said: list[str] = field(default_factory=list)
+
+    @property
+    def names(self) -> dict[str, list[str]]:
+        """All names of each device's label, the first one first."""
+        return self.model.names
+
+    def apply(self) -> None:
+        """Changes the model's rows, and tells what no row says."""
+        self.check_customers()
+        self.check_nodes()
+        devices = [row for each in self.model.devices for row in self.rows_of(each)]
+        told = {row.name for row in devices}
+        for name in self.there.devices:
+            if name not in told and self.there.devices[name].has(self.there.at):
+                self.said.append(f"the device {name} isn't in the export any more, and ends")
+                devices.append(self.ended(name, name))
+        self.model.devices = devices
+        self.model.has_lives = True
+
+    def check_customers(self) -> None:
+        """A customer stays on its section."""
+        for number, section in self.model.sections.items():
+            customer = self.model.raw.customers[number]
+            before = self.there.customers.get(number_of(customer.number))
+            if before is not None and before.section != section:
+                self.complaints.add(
+                    customer.spot,
+                    f"customer {customer.number} is on {before.section} in the book, and on {section} in this export: end its"
+                    " service, and give the one that goes on another number",
+                )
+
+    def check_nodes(self) -> None:
+        """A section keeps its feeder, and those that the export hasn't stay."""
+        nodes = []
+        for node in self.model.nodes:
+            if node.name in self.there.nodes and self.there.nodes[node.name] != node.feeder:
+                home = self.there.nodes[node.name]
+                self.said.append(
+                    f"{node.name} hangs on feeder {node.feeder} now, and stays under feeder {home} in the book"
+                )
+                node = NodeRow(node.name, home)
+            nodes.append(node)
+        self.model.nodes = nodes
+        gone = self.there.nodes.keys() - {node.name for node in nodes}
+        at = self.there.at
+        for name in sorted(gone):
+            services = [each for each in self.there.customers.values() if each.section == name]
+            count = sum(each.since <= at and (each.until is None or at < each.until) for each in services)
+            if count:
+                self.said.append(
+                    f"{name} isn't in the export any more; customers of the book there, without supply: {count}"
+                )
+
+    def rows_of(self, row: DeviceRow) -> Iterator[DeviceRow]:
+        """The row of a device that is as it was; else of its end and of its beginning under a further name."""
+        there, names = self.there, self.names[row.label]
+        living = next(
+            (name for name in reversed(names) if name in there.devices and there.devices[name].has(there.at)), None
+        )
+        if living is not None:
+            life = there.devices[living]
+            if (life.ends, life.is_closed) == (frozenset(row.ends), row.is_closed):
+                yield replace(row, name=living)
+                return
+            if life.since >= there.at:
+                spot = (
+                    self.model.raw.edges[row.label].spot
+                    if row.label in self.model.raw.edges
+                    else self.spot_of_meter(row.label)
+                )
+                self.complaints.add(
+                    spot, f"{living} begins in the book at --at, and is otherwise here: give a later --at"
+                )
+            yield self.ended(living, row.label)
+        fresh = next((name for name in names if name not in there.devices), None) or self.new_name(row.label, names)
+        if fresh not in names:
+            names.append(fresh)
+        before = f"{living} ends, and goes on as {fresh}" if living else f"{fresh} begins"
+        self.said.append(
+            f"{row.label}: {before}: {' to '.join(row.ends)}, normally {'closed' if row.is_closed else 'open'}"
+        )
+        yield replace(row, name=fresh, since=there.text(there.at))
+
+    def spot_of_meter(self, label: str) -> Spot:
+        return next(each.spot for each in self.model.raw.customers if each.meter == label)
+
+    def ended(self, name: str, label: str) -> DeviceRow:
+        life, there = self.there.devices[name], self.there
+        since = there.text(life.since) if life.since else ""
+        return DeviceRow(name, label, there.ends[name], life.is_closed, since, there.text(there.at))
+
+    def new_name(self, label: str, names: list[str]) -> str:
+        """The first name of a device with a number that nothing has."""
+        told = (*self.names.values(), *self.model.gone.values())
+        taken = {*self.there.devices, *self.there.nodes, *(each for listed in told for each in listed)}
+        for number in range(2, 1_000):
+            name = f"{names[0]}-{number}"
+            name = name if len(name) <= MOST_NAME else told_apart(name, f"{label} {number}")
+            if name not in taken:
+                return name
+        raise BadRow(f"{label} has too many names")
+
+    # Tickets.
+
+    def name_at(self, label: str, second: int) -> str:
+        """The name of a device at a second."""
+        names = self.model.names_of(label)
+        new = {
+            row.name for row in self.model.devices if row.label == label and row.since == self.there.text(self.there.at)
+        }
+        for name in names:
+            life = self.there.devices.get(name)
+            ends_now = bool(new) and life is not None and name not in new
+            if life is not None and life.has(second) and not (ends_now and second >= self.there.at):
+                return name
+        return names[-1] if second >= self.there.at else names[0]
+
+    def name_in(self, row: Row, label: str) -> str:
+        """The name of the device that a ticket's row switched; one that changes while it is switched is refused."""
+        names = self.model.names_of(label)
+        if len(names) == 1:
+            return names[0]
+        zone = read_zone(row["zone"]) if row["zone"] else self.there.zone
+        moments = [
+            read_moment(row[column], row[f"{column}_hour"], zone, column, self.there.dates, wants_clock=True)
+            for column in ("out", "restored")
+            if row[column]
+        ]
+        if not moments:
+            return names[-1]
+        first, last = min(moments), max(moments)
+        found = self.name_at(label, first), self.name_at(label, max(first, last - 1))
+        if found[0] != found[1]:
+            raise BadRow(f"{label} is {found[0]} at its beginning and {found[1]} at its end: choose another --at")
+        return found[0]
