@@ -11,13 +11,12 @@ from datetime import datetime
 from functools import cached_property
 
 from outage_tools.counts import Counts, counts_of
+from outage_tools.feeding import Feeding
 from outage_tools.normal_state import SOURCE
 from outage_tools.oms.known import Known, Service
 from outage_tools.oms.steps import Step
 from outage_tools.rows import GRID, Block, Book, Device, Entry, Period, Section
-from outage_tools.sweep import Interruption, Run, bounds_of_lives, interruptions_of, sweep
-
-Ways = dict[int, list[tuple[str, int]]]  # for each node, the devices at it with the node behind each
+from outage_tools.sweep import Interruption, Run, interruptions_of, sweep
 
 
 def second_of(text: str) -> int | None:
@@ -130,8 +129,7 @@ class Draft:
     customers: dict[int, Service]
     steps: tuple[Step, ...]
     entry_of: dict[str, int]
-    ways_by_epoch: dict[int, Ways] = field(default_factory=dict)
-    found_behind: dict[tuple[int, str], frozenset[int]] = field(default_factory=dict)
+    found_behind: dict[tuple[str, int], frozenset[int]] = field(default_factory=dict)
 
     @property
     def period(self) -> Period:
@@ -208,45 +206,27 @@ class Draft:
 
     def out_at(self, section: int, second: int) -> Run | None:
         """The run in which a section is without supply at a second."""
-        return next((run for run in self.runs_of.get(section, ()) if run.since <= second < run.until), None)
+        runs = self.runs_of.get(section, [])
+        place = bisect_right(runs, second, key=lambda run: run.since) - 1
+        return runs[place] if place >= 0 and second < runs[place].until else None
 
     def out_in(self, sections: Iterable[int], since: int, until: int) -> int:
         """The customer-seconds without supply of some sections in an interval."""
         runs = (run for section in sections for run in self.runs_of.get(section, ()))
         return sum(self.served_in((run.section,), max(since, run.since), min(until, run.until)) for run in runs)
 
-    @cached_property
-    def moments_of_lives(self) -> list[int]:
-        return sorted(bounds_of_lives(self.book.devices))
-
     def behind(self, device: str, second: int) -> frozenset[int]:
         """The sections that a device feeds with all devices in their normal positions, as of a second."""
-        epoch = bisect_right(self.moments_of_lives, second)
-        if epoch not in self.ways_by_epoch:
-            self.ways_by_epoch[epoch] = ways_of(self.book, second)
-        ways = self.ways_by_epoch[epoch]
-        if (epoch, device) not in self.found_behind:
-            nodes = reached(ways, "") - reached(ways, device)
-            self.found_behind[epoch, device] = nodes & self.book.sections.keys()
-        return self.found_behind[epoch, device]
+        key = device, bisect_right(self.feeding.moments, second)
+        if key not in self.found_behind:
+            self.found_behind[key] = self.feeding.behind(self.devices[device], second)
+        return self.found_behind[key]
 
+    @cached_property
+    def feeding(self) -> Feeding:
+        return Feeding(self.book)
 
-def ways_of(book: Book, second: int) -> Ways:
-    """The nodes beside each, over the devices that are closed normally and are there at a second."""
-    ways: Ways = defaultdict(list)
-    for device in book.devices:
-        if device.is_closed and device.is_alive(second):
-            ways[device.a].append((device.name, device.b))
-            ways[device.b].append((device.name, device.a))
-    return ways
-
-
-def reached(ways: Ways, without: str) -> frozenset[int]:
-    """The nodes to which a walk leads that doesn't use a device."""
-    found, waiting = {GRID}, [GRID]
-    while waiting:
-        for device, node in ways.get(waiting.pop(), ()):
-            if device != without and node not in found:
-                found.add(node)
-                waiting.append(node)
-    return frozenset(found)
+    @cached_property
+    def devices(self) -> dict[str, int]:
+        """The number of each device."""
+        return {device.name: device.number for device in self.book.devices}

@@ -3,7 +3,7 @@ book has otherwise."""
 
 from collections.abc import Iterable, Iterator
 
-from outage_tools.implausible.draft import reached, ways_of
+from outage_tools.feeding import ways_of
 from outage_tools.implausible.lines import MOST_NAMED, LastBook, Line, Look, percent
 from outage_tools.oms.known import Service
 from outage_tools.rows import GRID, Block
@@ -24,14 +24,14 @@ def first_names(names: Iterable[str]) -> str:
 def last_sections(look: Look) -> list[int]:
     """The sections that are reached with all devices in their normal positions, and behind which nothing is."""
     ways = ways_of(look.draft.book, look.draft.period.first)
-    nodes, parents, waiting = reached(ways, ""), {GRID: GRID}, [GRID]
+    parents, waiting = {GRID: GRID}, [GRID]
     while waiting:
         node = waiting.pop()
         for _, other in ways.get(node, ()):
             if other not in parents:
                 parents[other] = node
                 waiting.append(other)
-    return sorted((nodes & look.draft.book.sections.keys()) - set(parents.values()))
+    return sorted((parents.keys() & look.draft.book.sections.keys()) - set(parents.values()))
 
 
 def without_customers(look: Look) -> Iterator[Line]:
