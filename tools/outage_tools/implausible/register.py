@@ -2,11 +2,14 @@
 book has otherwise."""
 
 from collections.abc import Iterable, Iterator
+from dataclasses import replace
 
 from outage_tools.feeding import ways_of
+from outage_tools.implausible.draft import total_of
 from outage_tools.implausible.lines import MOST_NAMED, LastBook, Line, Look, percent
 from outage_tools.oms.known import Service
 from outage_tools.rows import GRID, Block
+from outage_tools.sweep import interruptions_of, sweep
 
 FEWEST_BEGUN = 10  # services that begin, where none ends
 FEWEST_CHANGED = 5  # services that begin, or end
@@ -145,20 +148,22 @@ def out_of(look: Look, section: int | None, service: Service) -> int:
 
 
 def moved_devices(look: Look, last: LastBook) -> Iterator[Line]:
-    """Devices with other ends or another normal position than in the last book, with what is counted behind them."""
+    """Devices with other ends or another normal position than in the last book, with by how much W differs by that."""
     book = look.draft.book
-    moved = [
-        device
-        for device in book.devices
-        if device.name in last.devices
-        and last.devices[device.name] != (frozenset((book.nodes[device.a], book.nodes[device.b])), device.is_closed)
-    ]
+    numbers = {name: number for number, name in book.nodes.items()}
+    devices, moved = list(book.devices), []
+    for device in book.devices:
+        here = frozenset((book.nodes[device.a], book.nodes[device.b])), device.is_closed
+        ends, is_closed = last.devices.get(device.name, here)
+        if (ends, is_closed) != here:
+            moved.append(device.name)
+            if ends <= numbers.keys():
+                a, b = (numbers[end] for end in ends)
+                devices[device.number] = replace(device, a=a, b=b, is_closed=is_closed)
     if moved:
-        first = look.draft.period.first
-        sections = {section for device in moved for section in look.draft.behind(device.name, first)}
-        seconds = look.draft.out_in(sections, first, look.draft.period.end)
-        names = first_names(device.name for device in moved)
-        text = f"devices with other ends or another normal position than in the last book ({len(moved)}): {names}"
+        before = replace(book, devices=tuple(devices))
+        seconds = abs(total_of(interruptions_of(before, sweep(before))) - look.draft.total)
+        text = f"devices with other ends or another normal position than in the last book ({len(moved)}): {first_names(moved)}"
         yield Line("devices", text, seconds)
 
 

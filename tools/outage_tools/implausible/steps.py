@@ -96,19 +96,20 @@ def before_first(look: Look) -> Iterator[Line]:
 
 def owners(look: Look, step: Step) -> set[str | None]:
     """The tickets by which what a step's device feeds was out already, when the step begins; None is none of the rows."""
-    second, found = begin_of(step), set[str | None]()
+    second, found, own = begin_of(step), set[str | None](), look.draft.entries_of(step)
     for section in look.draft.behind(step.device, second):
         run = look.draft.out_at(section, second)
-        if run is not None and run.cutter is not None:
+        if run is not None and run.cutter is not None and run.cutter.number not in own:
             found.add(look.draft.ticket_of_entry.get(run.cutter.number))
     return found
 
 
 def nobody_cut_off(look: Look) -> Iterator[Line]:
-    """Steps that cut nobody off, but for those that divide the outage of their own ticket."""
+    """Steps that cut nobody off, but for those that divide the outage of their own ticket, or go on with one of another ticket."""
     kinds: dict[str, list[Step]] = defaultdict(list)
+    elsewhere = {step.number for step in touching_steps(look)} | look.overlapping
     for step in look.outages:
-        if step.leave == step.back or look.draft.cut_by(step):
+        if step.leave == step.back or step.number in elsewhere or look.draft.cut_by(step):
             continue
         others = owners(look, step)
         if step.ticket in others:
@@ -178,13 +179,13 @@ def ties_unused(look: Look) -> Iterator[Line]:
         yield Line("ties-unused", text, seconds, places_of(divided))
 
 
-def touching(look: Look) -> Iterator[Line]:
-    """Tickets of one device of which one begins when the other has ended."""
+def touching_steps(look: Look) -> list[Step]:
+    """The later one of each two tickets of one device of which one begins when the other has ended."""
     by_device: dict[str, list[Step]] = defaultdict(list)
     for step in look.outages:
         if look.length(step) > LONGEST_MOMENTARY:
             by_device[step.device].append(step)
-    found = [
+    return [
         after
         for listed in by_device.values()
         for before, after in zip(listed, listed[1:])
@@ -192,6 +193,11 @@ def touching(look: Look) -> Iterator[Line]:
         and before.back is not None
         and 0 <= begin_of(after) - before.back <= look.limits.touching
     ]
+
+
+def touching(look: Look) -> Iterator[Line]:
+    """Tickets that go on where another one of their device ends."""
+    found = touching_steps(look)
     if found:
         seconds = sum(
             look.draft.out_in(look.draft.behind(step.device, begin_of(step)), *look.span(step)) for step in found
