@@ -72,14 +72,15 @@ class Look:
         """The steps of devices that are closed normally, whose beginning is told."""
         return [step for step in self.steps if step.is_closed and step.leave is not None]
 
-    def is_over(self, step: Step) -> bool:
-        return step.back is not None
-
     def length(self, step: Step) -> int:
         """How long a step has lasted when the exports were made, at most up to the period's end."""
         if step.leave is None:
             return 0
         return max(0, min(self.until, self.until if step.back is None else step.back) - step.leave)
+
+    def lasting(self, step: Step) -> str:
+        """A step with how long it has lasted."""
+        return f"{step_text(step)} {hours_text(self.length(step))}{' so far' if step.back is None else ''}"
 
     def span(self, step: Step) -> tuple[int, int]:
         """The seconds of the period in which the step's device isn't in its normal position, as the book counts."""

@@ -31,12 +31,9 @@ def long_steps(look: Look) -> Iterator[Line]:
     if not found:
         return
 
-    def text(step: Step) -> str:
-        return f"{step_text(step)} {hours_text(look.length(step))}{'' if look.is_over(step) else ', not over'}"
-
     seconds = sum(weight(look, step) for step in found)
     head = f"steps over {look.limits.long // 3_600} h ({len(found)})"
-    yield Line("long", f"{head}: {named(found, text)}", seconds, places_of(found))
+    yield Line("long", f"{head}: {named(found, look.lasting)}", seconds, places_of(found))
 
 
 def weight(look: Look, step: Step) -> int:
@@ -151,11 +148,8 @@ def ties_closed(look: Look) -> Iterator[Line]:
     seconds = abs(total_of(interruptions_of(book, sweep(book))) - look.draft.total)
     hours = look.limits.tie_closed // 3_600
 
-    def text(step: Step) -> str:
-        return f"{step_text(step)} {hours_text(look.length(step))}{'' if look.is_over(step) else ', not over'}"
-
     told = f"ties closed for over {hours} h ({len(found)}), with what differs if they had been opened then"
-    yield Line("tie-closed", f"{told}: {named(found, text)}", seconds, places_of(found))
+    yield Line("tie-closed", f"{told}: {named(found, look.lasting)}", seconds, places_of(found))
 
 
 def ties_unused(look: Look) -> Iterator[Line]:

@@ -111,11 +111,11 @@ def text_of(found: Implausible, fail_above: Fraction | None) -> Iterator[str]:
     yield from (weighed(line.customer_seconds, total, line.text) for line in found.lines)
     if found.rows:
         yield f"rows with most customer-minutes ({percent(sum(seconds for _, seconds in found.rows), total)} of all):"
-    zone = found.look.draft.period.zone
+    look, zone = found.look, found.look.draft.period.zone
     for step, seconds in found.rows:
-        since, until = found.look.span(step)
-        over = "" if step.back is not None else ", not over"
-        text = f"{step_text(step)} from {zone.short_text(since)}, {hours_text(until - since)}{over}"
+        since, until = look.span(step)
+        to_the_end = " to the period's end" if until == look.draft.period.end else ""
+        text = f"{step_text(step)} from {zone.short_text(since)}, {hours_text(until - since)}{to_the_end}"
         yield weighed(seconds, total, text)
     if fail_above is not None:
         share = decimal_text(100 * fail_above, 1)
