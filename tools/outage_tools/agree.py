@@ -438,6 +438,9 @@ def add_count_arguments(parser: argparse._ActionsContainer) -> None:
     parser.add_argument(
         "--cancelled", metavar="WORD", action="append", default=[], help="as outagebook-from-oms takes it"
     )
+    parser.add_argument(
+        "--ordinary", metavar="WORD", action="append", help="taken, so that all tools take the same words"
+    )
     add_format_arguments(parser)
 
 

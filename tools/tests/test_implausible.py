@@ -289,7 +289,7 @@ class Statuses(unittest.TestCase):
             r"\nimplausible, not wrong by itself \(1\): estimates by the rows alone, not by the program: of [0-9]+"
             r" customer-minutes, SAIDI [0-9.]+ minutes\n +customer-minutes +share\n +[0-9]+ +60.4%  steps over 24 h \(1\): T-2 ",
         )
-        self.assertIn("\nimplausible with a share above 5.0%: 1\n", done.stdout)
+        self.assertIn("\nimplausible with a share above 5.000%: 1\n", done.stdout)
         self.assertTrue(done.stdout.endswith("\nit fits, and nothing is wrong\n"))
 
 

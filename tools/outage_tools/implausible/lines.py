@@ -7,6 +7,7 @@ from fractions import Fraction
 from functools import cached_property
 
 from outage_tools.contents import Place
+from outage_tools.counts import decimal_text
 from outage_tools.implausible.draft import Draft
 from outage_tools.implausible.limits import HOUR, Limits
 from outage_tools.oms.known import Service
@@ -114,12 +115,9 @@ def named(steps: Iterable[Step], text: Callable[[Step], str] = step_text) -> str
     return ", ".join(text(step) for step in listed[:MOST_NAMED]) + (f" and {rest} more" if rest > 0 else "")
 
 
-def percent(part: int, whole: int) -> str:
+def percent(share: Fraction) -> str:
     """A share in per cent with one decimal, rounded half up."""
-    if not whole:
-        return "0.0%"
-    tenths = (2_000 * part + whole) // (2 * whole)
-    return f"{tenths // 10}.{tenths % 10}%"
+    return f"{decimal_text(100 * share, 1)}%"
 
 
 def share_of(line: Line, total: int, momentary: int) -> Fraction:

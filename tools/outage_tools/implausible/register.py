@@ -3,6 +3,7 @@ book has otherwise."""
 
 from collections.abc import Iterable, Iterator
 from dataclasses import replace
+from fractions import Fraction
 
 from outage_tools.feeding import ways_of
 from outage_tools.implausible.draft import total_of
@@ -77,10 +78,8 @@ def services(look: Look) -> Iterator[Line]:
     counts = [sum(block.customers for block in listed) for listed in (begun, ended)]
     for word, listed, count in (("begin", begun, counts[0]), ("end", ended, counts[1])):
         if count >= FEWEST_CHANGED and count > look.limits.services * customers:
-            text = (
-                f"services that {word} within the period ({count} of {customers}, {percent(count, customers)}), with what else they would"
-                " have"
-            )
+            share = percent(Fraction(count, customers))
+            text = f"services that {word} within the period ({count} of {customers}, {share}), with what else they would have"
             yield Line(f"services-{word}", text, outside(look, listed, word == "begin"))
     if counts[0] >= FEWEST_BEGUN and not counts[1]:
         text = f"no service ends within the period, though {counts[0]} begin, with what as many would have"
@@ -95,25 +94,27 @@ def is_served(service: Service, second: int) -> bool:
 
 
 def number_of_customers(look: Look, last: LastBook) -> Iterator[Line]:
-    """The number of customers at the last book's end, and now, with what as many more would have."""
+    """The number of customers at the last book's end, and by the register, with what as many more would have."""
+    listed = look.draft.customers
     second = look.draft.period.first
+    if last.is_same:
+        listed = {each: listed[each] for each in look.told_customers or () if each in listed}
+        second = last.end - 1
     before = sum(is_served(service, last.end - 1) for service in last.customers.values())
-    now = sum(is_served(service, second) for service in look.draft.customers.values())
+    now = sum(is_served(service, second) for service in listed.values())
     if before and abs(now - before) > look.limits.grown * before:
         text = (
-            f"customers at the first second: {now}, {before} at the last book's end ({percent(abs(now - before), before)}"
+            f"customers by the register: {now}, at the last book's end: {before} ({percent(Fraction(abs(now - before), before))}"
             f" {'more' if now > before else 'fewer'}), with what so many have on average"
         )
         yield Line("customers", text, look.draft.total * abs(now - before) // max(1, now))
 
 
-def not_told(look: Look, last: LastBook) -> Iterator[Line]:
+def not_told(look: Look, last: LastBook, told: frozenset[int]) -> Iterator[Line]:
     """Customers that the last book has in service, and no row of the register."""
-    if look.told_customers is None:
-        return
     second = last.end - 1
     listed = [each for each, service in last.customers.items() if is_served(service, second)]
-    gone = [customer for customer in listed if customer not in look.told_customers]
+    gone = [customer for customer in listed if customer not in told]
     if gone:
         text = (
             f"customers in service at the last book's end whom the register hasn't ({len(gone)} of {len(listed)}), with what as many"
@@ -168,11 +169,12 @@ def moved_devices(look: Look, last: LastBook) -> Iterator[Line]:
 
 
 def against_last(look: Look) -> Iterator[Line]:
-    """What the last book has otherwise; of the book that the rows are for, customers alone."""
+    """What the last book has otherwise; of the book that the rows are for, who is in the register alone."""
     if look.last is not None:
-        yield from not_told(look, look.last)
-        if not look.last.is_same:
+        if look.told_customers is not None:
             yield from number_of_customers(look, look.last)
+            yield from not_told(look, look.last, look.told_customers)
+        if not look.last.is_same:
             yield from moved_customers(look, look.last)
             yield from moved_devices(look, look.last)
 

@@ -3,6 +3,7 @@
 from collections import defaultdict
 from collections.abc import Iterator
 from dataclasses import replace
+from fractions import Fraction
 
 from outage_tools.implausible.draft import total_of
 from outage_tools.implausible.lines import (
@@ -49,8 +50,8 @@ def without_length(look: Look) -> Iterator[Line]:
         return
     customers = sum(customers_behind(look, step) for step in found)
     text = (
-        f"steps of no length ({len(found)}): no interruption is counted, though {customers} interruptions of customers would be"
-        f" momentary beside {look.draft.counts.momentary}: {named(found)}"
+        f"steps of no length ({len(found)}), with the share of momentary interruptions: {customers} of customers aren't counted"
+        f" beside {look.draft.counts.momentary}: {named(found)}"
     )
     yield Line("no-length", text, 0, places_of(found), customers)
 
@@ -216,9 +217,10 @@ def whole_minutes(look: Look) -> Iterator[Line]:
         return
     none = sum(customers_behind(look, step) for step in look.outages if step.leave == step.back)
     at_limit = sum(each.customers for each in look.draft.interruptions if each.seconds == LONGEST_MOMENTARY)
+    share = percent(Fraction(whole, len(moments)))
     text = (
-        f"times at whole minutes ({percent(whole, len(moments))} of {len(moments)}): interruptions within a minute aren't counted"
-        f" ({none} of customers), those told as 5 minutes count as momentary ({at_limit})"
+        f"times at whole minutes ({share} of {len(moments)}), with the share of momentary interruptions:"
+        f" those within a minute aren't counted ({none} of customers), those told as 5 minutes may be sustained ({at_limit})"
     )
     yield Line("whole-minutes", text, 0, (), none + at_limit, is_failure=False)
 

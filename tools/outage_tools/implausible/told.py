@@ -85,8 +85,8 @@ def minutes_text(customer_seconds: int) -> str:
     return str((customer_seconds + 30) // 60)
 
 
-def weighed(customer_seconds: int, total: int, text: str) -> str:
-    return f"{minutes_text(customer_seconds):>{WIDTH}}{percent(customer_seconds, total):>9}  {text}"
+def weighed(customer_seconds: int, share: Fraction, text: str) -> str:
+    return f"{minutes_text(customer_seconds):>{WIDTH}}{percent(share):>9}  {text}"
 
 
 def head_of(found: Implausible) -> str:
@@ -104,22 +104,24 @@ def head_of(found: Implausible) -> str:
 
 def text_of(found: Implausible, fail_above: Fraction | None) -> Iterator[str]:
     """What is implausible, and the rows with most customer-minutes."""
-    total = found.look.draft.total
+    total, momentary = found.look.draft.total, found.look.draft.counts.momentary
     yield f"implausible, not wrong by itself ({len(found.lines) or 'nothing'}): {head_of(found)}"
     if found.lines or found.rows:
         yield f"{'customer-minutes':>{WIDTH}}{'share':>9}"
-    yield from (weighed(line.customer_seconds, total, line.text) for line in found.lines)
+    for line in found.lines:
+        yield weighed(line.customer_seconds, share_of(line, total, momentary), line.text)
     if found.rows:
-        yield f"rows with most customer-minutes ({percent(sum(seconds for _, seconds in found.rows), total)} of all):"
+        share = Fraction(sum(seconds for _, seconds in found.rows), total)
+        yield f"rows with most customer-minutes ({percent(share)} of all):"
     look, zone = found.look, found.look.draft.period.zone
     for step, seconds in found.rows:
         since, until = look.span(step)
         to_the_end = " to the period's end" if until == look.draft.period.end else ""
         text = f"{step_text(step)} from {zone.short_text(since)}, {hours_text(until - since)}{to_the_end}"
-        yield weighed(seconds, total, text)
+        yield weighed(seconds, Fraction(seconds, total), text)
     if fail_above is not None:
-        share = decimal_text(100 * fail_above, 1)
-        yield f"implausible with a share above {share}%: {len(found.above(fail_above)) or 'nothing'}"
+        above = len(found.above(fail_above))
+        yield f"implausible with a share above {decimal_text(100 * fail_above, 3)}%: {above or 'nothing'}"
 
 
 def json_of(found: Implausible, fail_above: Fraction | None) -> dict[str, object]:
