@@ -1,17 +1,24 @@
 """What is implausible in exports: twenty-three mistakes planted in a made year, each option, statuses, and the estimates against books."""
 
+import contextlib
+import io
 import json
 import os
+import sys
 import unittest
 from collections.abc import Iterable
 from fractions import Fraction
 from functools import lru_cache
 from pathlib import Path
 from typing import Any
+from unittest import mock
 
+from outage_tools import check
+from outage_tools.feeding import Feeding
 from outage_tools.implausible.limits import OPTIONS, share
+from outage_tools.sweep import Supply
 from tests import made_utility, program_books, support
-from tests.exports import book_words
+from tests.exports import Done, book_words
 from tests.made_exports import Year
 from tests.made_utility import DAYS, EASTERN, FIRST, MISTAKES, Customer, Row, Utility, with_mistake
 from tests.support import Made, written
@@ -83,11 +90,23 @@ def year_before() -> Made:
     return made
 
 
+def run_check(words: Iterable[object]) -> Done:
+    """A run of the tool in this process."""
+    out, err = io.StringIO(), io.StringIO()
+    with mock.patch.object(sys, "argv", ["check.py", *map(str, words)]):
+        with contextlib.redirect_stdout(out), contextlib.redirect_stderr(err):
+            try:
+                status = check.main()
+            except SystemExit as end:
+                status = end.code if isinstance(end.code, int) else 1
+    return Done(status, out.getvalue(), err.getvalue())
+
+
 def checked(words: Iterable[object], status: int = 0) -> dict[str, Any]:
-    done = support.run_tool("check", *words, "--json")
-    if done.returncode != status:
-        raise AssertionError(f"status {done.returncode}: {done.stdout[-2000:]}{done.stderr}")
-    whole: dict[str, Any] = json.loads(done.stdout)
+    done = run_check([*words, "--json"])
+    if done.status != status:
+        raise AssertionError(f"status {done.status}: {done.out[-2000:]}{done.err}")
+    whole: dict[str, Any] = json.loads(done.out)
     return whole
 
 
@@ -255,7 +274,7 @@ class Statuses(unittest.TestCase):
     """What a job that runs each night can tell."""
 
     def status(self, made: Utility, *words: object) -> int:
-        return support.run_tool("check", *files_of(made), *YEAR, *words).returncode
+        return run_check([*files_of(made), *YEAR, *words]).status
 
     def test_fail_above(self) -> None:
         made = with_mistake(utility(), "call-backs closed late as second tickets")  # 0.59 %
@@ -282,15 +301,15 @@ class Statuses(unittest.TestCase):
 
     def test_the_text(self) -> None:
         made = with_mistake(utility(), "one lost On")
-        done = support.run_tool("check", *files_of(made), *YEAR, "--fail-above", "5%")
-        self.assertEqual(done.returncode, 3, done.stderr)
+        done = run_check([*files_of(made), *YEAR, "--fail-above", "5%"])
+        self.assertEqual(done.status, 3, done.err)
         self.assertRegex(
-            done.stdout,
+            done.out,
             r"\nimplausible, not wrong by itself \(1\): estimates by the rows alone, not by the program: of [0-9]+"
             r" customer-minutes, SAIDI [0-9.]+ minutes\n +customer-minutes +share\n +[0-9]+ +60.4%  steps over 24 h \(1\): T-2 ",
         )
-        self.assertIn("\nimplausible with a share above 5.000%: 1\n", done.stdout)
-        self.assertTrue(done.stdout.endswith("\nit fits, and nothing is wrong\n"))
+        self.assertIn("\nimplausible with a share above 5.000%: 1\n", done.out)
+        self.assertTrue(done.out.endswith("\nit fits, and nothing is wrong\n"))
 
 
 class BesideOthers(unittest.TestCase):
@@ -336,6 +355,20 @@ class BesideOthers(unittest.TestCase):
         self.assertFalse([each for each in whole["findings"] if "status" in each["text"]])
 
 
+class Feeds(unittest.TestCase):
+    def test_what_is_behind_each_device(self) -> None:
+        """It is what loses supply when the device alone is opened."""
+        book = support.opened(year_before()).book
+        supply, feeding = Supply(book), Feeding(book)
+        before = supply.supplied()
+        for device in book.devices:
+            was_closed = supply.set_position(device, False)
+            lost = (before - supply.supplied()) & book.sections.keys()
+            self.assertEqual(feeding.behind(device.number, book.period.first), lost, device.name)
+            if was_closed:
+                supply.set_position(device, True)
+
+
 class Estimates(unittest.TestCase):
     """The customer-seconds of the rows are those of the book that they make, as the model counts them."""
 
@@ -376,7 +409,7 @@ class Estimates(unittest.TestCase):
 
     def status_of(self, files: list[object], *words: object) -> int:
         """A made network may have sections that are cut off for a while, which is wrong by itself."""
-        return support.run_tool("check", *files, *words, "--meshed").returncode
+        return run_check([*files, *words, "--meshed"]).status
 
     def test_customers_of_the_book_that_no_row_has(self) -> None:
         rows = support.run_tool("from_oms", *Exports().files(), *WORDS).stdout
@@ -385,6 +418,7 @@ class Estimates(unittest.TestCase):
         exports = Exports()
         exports.rows["customers"] = exports.rows["customers"][2:]
         done = checked([*exports.files(), "--book", made.book, "--table", made.table])
+        self.assertEqual(lines_of(done).keys(), {"long", "customers", "not-told"})
         line = lines_of(done)["not-told"]
         self.assertIn("(2 of 12)", line["text"])
         self.assertIn(
