@@ -330,6 +330,14 @@ class BesideOthers(unittest.TestCase):
         other = self.text_of(Exports(oms=[row, tie]), "nobody")
         self.assertEqual(other, "supplied another way 1: T-1 step 1 SW-71 (row 8)")
 
+    def test_an_outage_in_two_rows(self) -> None:
+        """Its opening and its closing are told one by one: it is over, and so is a tie's stay."""
+        rows = ["T-1,1,SW-81,2025-10-22 09:00:00,,,,WIND", "T-1,2,SW-81,,,2025-10-22 15:00:00,,WIND"]
+        rows += ["T-1,3,TIE-78,,,2025-10-22 09:10:00,,WIND", "T-1,4,TIE-78,2025-10-22 15:10:00,,,,WIND"]
+        lines = lines_of(checked([*Exports(oms=rows).files(), *WORDS]))
+        self.assertEqual(lines.keys(), {"long"})
+        self.assertTrue(lines["long"]["text"].startswith("steps over 24 h (1): T-2045 "))
+
     def test_a_spare_that_is_open_at_both_sides(self) -> None:
         gis = ["bus,SPARE", "device,SP-1,,GRID,SPARE,open", "device,SP-2,,SPARE,NORTH-BUS,open"]
         whole = checked([*Exports(gis=gis).files(), *WORDS])

@@ -181,6 +181,22 @@ class Draft:
         """The ticket of each entry that a step of the rows has made."""
         return {number: step.ticket for step in self.steps for number in self.entries_of(step)}
 
+    @cached_property
+    def back_of(self) -> dict[int, int]:
+        """The second at which a device comes back to its normal position, by the entry with which it left it."""
+        found, left = dict[int, int](), dict[int, int]()
+        for entry in sorted(self.book.entries, key=lambda entry: (entry.second, entry.number)):
+            if entry.is_kept and entry.closes != self.book.devices[entry.device].is_closed:
+                left.setdefault(entry.device, entry.number)
+            elif entry.is_kept and entry.device in left:
+                found[left.pop(entry.device)] = entry.second
+        return found
+
+    def back(self, step: Step) -> int | None:
+        """When a step's device comes back, also where another row tells it; None where it doesn't."""
+        leaving = self.entry_of.get(step.ref_of(leaves=True))
+        return step.back if step.back is not None or leaving is None else self.back_of.get(leaving)
+
     def entries_of(self, step: Step) -> list[int]:
         """The entries that a step has made: its leaving, its coming back."""
         refs = (step.ref_of(leaves) for leaves in (True, False))

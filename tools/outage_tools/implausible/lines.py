@@ -63,9 +63,11 @@ class Look:
 
     @cached_property
     def tickets(self) -> dict[str, list[Step]]:
+        """The steps of each ticket whose beginning is told, in the order of time."""
         found: dict[str, list[Step]] = defaultdict(list)
         for step in self.steps:
-            found[step.ticket].append(step)
+            if step.leave is not None:
+                found[step.ticket].append(step)
         return found
 
     @cached_property
@@ -75,18 +77,17 @@ class Look:
 
     def length(self, step: Step) -> int:
         """How long a step has lasted when the exports were made, at most up to the period's end."""
-        if step.leave is None:
-            return 0
-        return max(0, min(self.until, self.until if step.back is None else step.back) - step.leave)
+        back = self.draft.back(step)
+        return 0 if step.leave is None else max(0, min(self.until, self.until if back is None else back) - step.leave)
 
     def lasting(self, step: Step) -> str:
         """A step with how long it has lasted."""
-        return f"{step_text(step)} {hours_text(self.length(step))}{' so far' if step.back is None else ''}"
+        return f"{step_text(step)} {hours_text(self.length(step))}{' so far' if self.draft.back(step) is None else ''}"
 
     def span(self, step: Step) -> tuple[int, int]:
         """The seconds of the period in which the step's device isn't in its normal position, as the book counts."""
-        period = self.draft.period
-        until = period.end if step.back is None else min(step.back, period.end)
+        period, back = self.draft.period, self.draft.back(step)
+        until = period.end if back is None else min(back, period.end)
         return max(begin_of(step), period.first), until
 
 

@@ -31,7 +31,6 @@ def long_steps(look: Look) -> Iterator[Line]:
     found = by_weight(look, [step for step in look.outages if look.length(step) > look.limits.long])
     if not found:
         return
-
     seconds = sum(weight(look, step) for step in found)
     head = f"steps over {look.limits.long // 3_600} h ({len(found)})"
     yield Line("long", f"{head}: {named(found, look.lasting)}", seconds, places_of(found))
@@ -185,8 +184,8 @@ def touching_steps(look: Look) -> list[Step]:
         for listed in by_device.values()
         for before, after in zip(listed, listed[1:])
         if before.ticket != after.ticket
-        and before.back is not None
-        and 0 <= begin_of(after) - before.back <= look.limits.touching
+        and (back := look.draft.back(before)) is not None
+        and 0 <= begin_of(after) - back <= look.limits.touching
     ]
 
 
