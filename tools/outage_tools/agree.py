@@ -1,9 +1,11 @@
 """The outage management system's own counts beside the book's, ticket by ticket, the greatest difference first.
 
-    python3 tools/agree.py BOOK OMS.csv [--csv | --json] [--most N] [--by-step] [--table FILE | --program PATH]
+    python3 tools/agree.py BOOK OMS.csv [--csv | --json] [--most N] [--by-step] [--fail-above SHARE]
+                           [--table FILE | --program PATH]
 
 OMS.csv has the columns `ticket`, `customers` and `customer_minutes`. What belongs to a ticket in the book is said in
-tickets.py and in docs/use/CHECKING.md. The book is compared with the program first.
+tickets.py and in docs/use/CHECKING.md. The book is compared with the program first. The status is 0, or 3 where tickets differ by a
+greater share than that of `--fail-above`.
 """
 
 import argparse
@@ -17,12 +19,13 @@ from outage_tools.compare import Checked, open_book
 from outage_tools.counts import decimal_text
 from outage_tools.errors import BookError
 from outage_tools.forms import Figures, Value, write_csv, write_json, write_text
+from outage_tools.implausible.limits import add_fail_argument
 from outage_tools.oms.complaints import BadRow, Complaints
 from outage_tools.oms.fields import identifier
 from outage_tools.oms.files import Format, Row, add_format_arguments, format_of, read_file
 from outage_tools.oms.outages import COUNTS
 from outage_tools.oms.steps import cancelled_words
-from outage_tools.rows import Book, Entry
+from outage_tools.rows import Block, Book, Entry
 from outage_tools.suspects import Difference, Suspect, suspects_of
 from outage_tools.tickets import Part, Ticket, Tickets, customers_of, tickets_of
 
@@ -31,6 +34,7 @@ LONGEST_TICKET = 24
 FIRST_PAGE = 10  # rows
 MOST_SECTIONS = 4  # in a text
 HALF_A_MINUTE = Fraction(1, 2)
+ABOVE = 3  # tickets differ by a greater share than --fail-above
 
 
 # What the outage management system counts.
@@ -185,6 +189,19 @@ class Agreement:
     def seconds_of_none(self) -> int:
         return sum(part.customer_seconds for part in self.of_none)
 
+    def share(self) -> Fraction:
+        """By which part of the OMS's customers, or of its customer-minutes if that is more, tickets differ; those that are told by one
+        side alone with all of theirs, what rounding explains not at all. 1 where the OMS counts none."""
+        different = [row for row in self.rows if not row.is_rounded]
+        customers = sum(abs(row.customers_more or 0) for row in different)
+        minutes = sum((abs(row.minutes_more or Fraction(0)) for row in different), Fraction(0))
+        return max(part_of(Fraction(customers), Fraction(self.customers_told())), part_of(minutes, self.minutes_told()))
+
+
+def part_of(part: Fraction, whole: Fraction) -> Fraction:
+    """A part of a whole; 1 where the whole is nothing and the part isn't."""
+    return part / whole if whole else Fraction(int(part > 0))
+
 
 def agreement_of(found: Checked, told: dict[str, Told], prefix: str = "OMS-") -> Agreement:
     """The counts of a book beside those of an OMS. The customer-seconds of all tickets and of none add up to W."""
@@ -245,12 +262,25 @@ def reasons_of(book: Book, tickets: Tickets, ticket: Ticket) -> Iterator[str]:
 
 
 def already_out(book: Book, tickets: Tickets, ticket: Ticket) -> Iterator[str]:
-    """Sections beside a device that the ticket opened which were without supply by another ticket already."""
+    """Sections beside a device that the ticket opened which were without supply by another ticket already; else the customers behind
+    it who were, by a ticket or by none."""
     openings = [entry for entry in ticket.entries if entry.is_kept and not entry.closes]
     ends = ((node, entry.second) for entry in openings for node in ends_of(book, entry))
     others = {tickets.out_at(node, second) for node, second in ends} - {None, ticket.name}
     if others:
         yield f"what it opened was out already by {', '.join(sorted(filter(None, others)))}"
+        return
+    owners, blocks = set[str](), set[Block]()
+    for entry in openings:
+        for node in tickets.feeding.behind(entry.device, entry.second):
+            run = tickets.run_at(node, entry.second)
+            if run is not None and run[1] != ticket.name:
+                found = [each for each in tickets.blocks.get(node, ()) if each.since <= entry.second < each.until]
+                blocks.update(found)
+                owners.update([run[1] or "no ticket"] if found else [])
+    if blocks:
+        customers = sum(block.customers for block in blocks)
+        yield f"{customers} customers behind what it opened were out already by {', '.join(sorted(owners))}"
 
 
 def ends_of(book: Book, entry: Entry) -> tuple[int, int]:
@@ -380,12 +410,20 @@ def about(agreement: Agreement) -> list[str]:
     ]
 
 
-def figures_of(book: Book, agreement: Agreement, most: int | None) -> Figures:
+def share_text(agreement: Agreement, fail_above: Fraction) -> str:
+    """The share by which tickets differ, and the one that is still right."""
+    shares = (decimal_text(100 * share, 3) for share in (agreement.share(), fail_above))
+    return "Tickets differ by {}% of what the OMS counts; --fail-above {}%.".format(*shares)
+
+
+def figures_of(book: Book, agreement: Agreement, most: int | None, fail_above: Fraction | None = None) -> Figures:
     """All tickets with all columns; where `most` is given, as a text: what a person looks at, of the first tickets."""
     listed = agreement.rows[:most] if most else agreement.rows
     rows = [values_of(book, row, MOST_SECTIONS if most is not None else None) for row in listed]
     columns = {name: text for name, text in MEANINGS.items() if most is None or name not in NOT_IN_TEXT}
     lines = about(agreement)
+    if fail_above is not None:
+        lines.append(share_text(agreement, fail_above))
     if len(listed) < len(agreement.rows):
         lines.append(f"The first {len(listed)} of {len(agreement.rows)} tickets; --most 0 shows all.")
     return Figures("agreement", lines, columns, [[row[name] for name in columns] for row in rows])
@@ -399,6 +437,9 @@ def add_count_arguments(parser: argparse._ActionsContainer) -> None:
     parser.add_argument("--prefix", default="OMS-", help="what the references of outages begin with (OMS-)")
     parser.add_argument(
         "--cancelled", metavar="WORD", action="append", default=[], help="as outagebook-from-oms takes it"
+    )
+    parser.add_argument(
+        "--ordinary", metavar="WORD", action="append", help="taken, so that all tools take the same words"
     )
     add_format_arguments(parser)
 
@@ -422,6 +463,7 @@ def make_parser() -> Parser:
         default=FIRST_PAGE,
         help=f"how many tickets a text shows ({FIRST_PAGE}); 0: all",
     )
+    add_fail_argument(parser, "end with status 3 if tickets differ by more of the OMS's customers or minutes, as 1%%")
     add_count_arguments(parser)
     add_table_arguments(parser)
     return parser
@@ -433,10 +475,15 @@ def main() -> int:
     if args.most < 0:
         parser.error("--most is a number from 0 on")
 
+    status = 0
+
     def job() -> None:
+        nonlocal status
         told = counts_of(args)
         with open_book(args.book, args.table, args.program) as found:
             agreement = agreement_of(found, told, args.prefix)
-            args.write(figures_of(found.book, agreement, args.most if args.write is write_text else None))
+            most = args.most if args.write is write_text else None
+            args.write(figures_of(found.book, agreement, most, args.fail_above))
+        status = ABOVE if args.fail_above is not None and agreement.share() > args.fail_above else 0
 
-    return run_job(job)
+    return run_job(job) or status

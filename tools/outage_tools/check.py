@@ -3,10 +3,13 @@
     python3 tools/check.py --gis gis.csv --customers customers.csv --oms oms.csv --causes causes.csv
                            --first DATE --days N --zone RULE [--meshed] [--json]
     python3 tools/check.py --gis gis.csv .. --book BOOK [--table FILE | --program PATH]
+    python3 tools/check.py .. [--long HOURS] [--last BOOK] [--exported DATE] .. [--fail-above SHARE]
 
 It takes the exports as `outagebook-from-oms` takes them, and writes no rows. Each number stands beside the book's limit; the
 network is looked at with all devices in their normal positions, as of the first second and wherever a life begins or ends.
-The status is 0 where all fits and nothing is wrong, and 2 where something is. docs/use/CHECKING.md says what each finding means.
+What nothing contradicts, but is implausible, is told with what it weighs (implausible/).
+The status is 0 where all fits and nothing is wrong, 2 where something is, and 3 where nothing is wrong, but something implausible
+has a share above that of `--fail-above`. docs/use/CHECKING.md says what each finding means.
 """
 
 import argparse
@@ -16,6 +19,7 @@ from collections import defaultdict
 from collections.abc import Iterable, Iterator
 from contextlib import ExitStack
 from dataclasses import dataclass
+from fractions import Fraction
 
 from outage_tools.cli import Parser, run_job
 from outage_tools.compare import open_book
@@ -30,16 +34,29 @@ from outage_tools.contents import (
     take_network,
     take_outage,
 )
+from outage_tools.implausible.draft import Drafting
+from outage_tools.implausible.limits import add_limit_arguments, limits_of
+from outage_tools.implausible.lines import LastBook, Look
+from outage_tools.implausible.told import (
+    Implausible,
+    json_of,
+    last_book_of,
+    program_total_of,
+    text_of,
+    up_to,
+)
 from outage_tools.normal_state import SOURCE, During, Island, Loop, TestedNetwork, during, moments_of
 from outage_tools.oms import causes, convert, customers, network, outages, told
-from outage_tools.oms.complaints import Complaint, Complaints, Notes
+from outage_tools.oms.complaints import CHANGED, Complaint, Complaints, Notes
 from outage_tools.oms.conversion import Conversion
 from outage_tools.oms.convert import Run
 from outage_tools.oms.files import Export, format_of
 from outage_tools.oms.known import Known, Service, known_of
+from outage_tools.oms.positions import OVERLAP
 from outage_tools.rows import Period
 
 WRONG = 2
+ABOVE = 3  # something implausible has a greater share than --fail-above
 MOST_NAMES = 8  # of one finding in a text
 MOST_FINDINGS = 20  # of one topic in a text
 MOST_ROWS = 3  # of the rows that have the same
@@ -191,7 +208,8 @@ def when_text(found: During[Island] | During[Loop], period: Period) -> str:
 
 
 def island_findings(contents: Contents, network: TestedNetwork, unserved: Unserved) -> Iterator[Finding]:
-    """What isn't reached. It is wrong where customers are in service there, or where none is known, or all the time."""
+    """What isn't reached. It is wrong where customers are in service there, or where none is known, or all the time, but for what ties
+    would reach and nobody is behind, as a spare transformer that is open normally at both sides."""
     period = unserved.period
     for found in during(moments_of(network.devices, period.first, period.end), period.end, network.islands):
         names = tuple(sorted(found.found.nodes))
@@ -201,7 +219,8 @@ def island_findings(contents: Contents, network: TestedNetwork, unserved: Unserv
         if found.found.ties:
             text += f"; through {names_text(tuple(sorted(found.found.ties)))}"
         topic = Topic.TIES_ALONE if found.found.is_reached_by_ties else Topic.NOT_REACHED
-        is_wrong = is_whole or counts[0] > 0 or not contents.customers
+        is_spare = found.found.is_reached_by_ties or not is_whole
+        is_wrong = not is_spare or counts[0] > 0 or not contents.customers
         yield Finding(topic, names, text + unserved_text(*counts), (), is_wrong, *counts)
 
 
@@ -290,22 +309,41 @@ def topic_text(topic: Topic, findings: list[Finding]) -> Iterator[str]:
         yield f"  and {count - MOST_FINDINGS} more, which --json prints"
 
 
-def write_text(bounds: list[Bound], findings: list[Finding]) -> None:
-    """Bounds and findings, and in the last line what they come to."""
-    print("\n".join(bounds_text(bounds)))
+@dataclass(frozen=True)
+class Looked:
+    """What was found: bounds, findings, and what is implausible, which isn't looked at where there is no room."""
+
+    bounds: list[Bound]
+    findings: list[Finding]
+    implausible: Implausible | None
+
+    @property
+    def fits(self) -> bool:
+        return all(each.fits for each in self.bounds)
+
+    @property
+    def is_wrong(self) -> bool:
+        return not self.fits or any(finding.is_wrong for finding in self.findings)
+
+
+def write_text(looked: Looked, fail_above: Fraction | None = None) -> None:
+    """Bounds, findings and what is implausible, and in the last line what they come to."""
+    print("\n".join(bounds_text(looked.bounds)))
     for topic in Topic:
-        listed = [finding for finding in findings if finding.topic is topic]
+        listed = [finding for finding in looked.findings if finding.topic is topic]
         if listed:
             print("\n" + "\n".join(topic_text(topic, listed)))
-    wrong = sum(finding.is_wrong for finding in findings)
-    fits = "it fits" if all(each.fits for each in bounds) else "it doesn't fit"
+    if looked.implausible is not None:
+        print("\n" + "\n".join(text_of(looked.implausible, fail_above)))
+    wrong = sum(finding.is_wrong for finding in looked.findings)
+    fits = "it fits" if looked.fits else "it doesn't fit"
     print(f"\n{fits}, and {wrong or 'nothing'} {'things are' if wrong > 1 else 'thing is' if wrong else 'is'} wrong")
 
 
-def write_json(bounds: list[Bound], findings: list[Finding]) -> None:
+def write_json(looked: Looked, fail_above: Fraction | None = None) -> None:
     whole = {
         "bounds": [
-            {"what": each.what, "number": each.number, "limit": each.limit, "fits": each.fits} for each in bounds
+            {"what": each.what, "number": each.number, "limit": each.limit, "fits": each.fits} for each in looked.bounds
         ],
         "findings": [
             {
@@ -317,8 +355,9 @@ def write_json(bounds: list[Bound], findings: list[Finding]) -> None:
                 "customers": each.customers,
                 "customer_seconds": each.customer_seconds,
             }
-            for each in findings
+            for each in looked.findings
         ],
+        "implausible": None if looked.implausible is None else json_of(looked.implausible, fail_above),
     }
     json.dump(whole, sys.stdout, indent=1)
     print()
@@ -350,20 +389,48 @@ def entries_of(run: Run, known: Known) -> int:
     return len(known.book.entries if known.book else ()) + written + beyond
 
 
-def looked_at(args: argparse.Namespace, known: Known) -> tuple[list[Bound], list[Finding]]:
-    """The bounds, and the findings topic by topic. What has no room isn't told row by row, nor what hangs on it."""
+def implausible_in(
+    args: argparse.Namespace, run: Run, contents: Contents, drafting: Drafting, last: LastBook | None
+) -> Implausible:
+    """What is implausible in the exports."""
+    overlapping = (row for notes in run.files for row in notes.noted.get((CHANGED, OVERLAP), ()))
+    told = frozenset(int(name) for kind, name in contents.places if kind == "customer")
+    look = Look(
+        drafting.draft(run.steps),
+        limits_of(args),
+        up_to(drafting.period, getattr(args, "exported", None)),
+        frozenset(overlapping),
+        last,
+        told if args.customers else None,
+    )
+    return Implausible(look, program_total_of(drafting.known))
+
+
+def looked_at(args: argparse.Namespace, known: Known, last: LastBook | None = None) -> Looked:
+    """The bounds, the findings topic by topic, and what is implausible. What has no room isn't told row by row, nor what hangs on it."""
     conversion = convert.conversion_of(args, known)
     assert conversion.period is not None  # the words tell it, or the book
     contents = contents_of(args, conversion)
     findings = findings_of(contents, conversion.period, args.meshed)
-    run = Run(args, convert.conversion_of(args, known), format_of(args))
-    for _ in run.commands():
-        pass
+    run, drafting = Run(args, convert.conversion_of(args, known), format_of(args)), Drafting(known, conversion.period)
+    for row in run.commands():
+        drafting.take(row)
     bounds = bounds_of(contents, conversion.period, entries_of(run, known))
+    implausible = None
     if all(bound.fits for bound in bounds):
         findings += conversion_findings(run, contents, findings)
+        implausible = implausible_in(args, run, contents, drafting, last)
     topics = list(Topic)
-    return bounds, sorted(findings, key=lambda finding: topics.index(finding.topic))
+    return Looked(bounds, sorted(findings, key=lambda finding: topics.index(finding.topic)), implausible)
+
+
+def last_book(args: argparse.Namespace, known: Known) -> LastBook | None:
+    """The book of the period before, or the one that the rows are for."""
+    if not args.last:
+        return last_book_of(known, is_same=True)
+    table = None if args.book else args.table
+    with open_book(args.last, table, args.program) as found:
+        return last_book_of(known_of(found), is_same=False)
 
 
 def make_parser() -> Parser:
@@ -373,6 +440,7 @@ def make_parser() -> Parser:
     parser.add_argument("--days", metavar="N", type=int, help="how many days it has")
     parser.add_argument("--overlaps", choices=["refuse", "join"], default="refuse", help="as from_oms takes it")
     parser.add_argument("--meshed", action="store_true", help="loops of closed devices are meant: they aren't wrong")
+    add_limit_arguments(parser)
     parser.add_argument(
         "--json", dest="write", action="store_const", const=write_json, default=write_text, help="as JSON"
     )
@@ -387,16 +455,19 @@ def main() -> int:
         parser.error("the period isn't given: --first, --days and --zone, or --book")
     if args.days is not None and args.days < 1:
         parser.error("--days is a number from 1 on")
-    wrong = False
+    status = 0
 
     def job() -> None:
-        nonlocal wrong
+        nonlocal status
         with ExitStack() as stack:
             known = Known()
             if args.book:
                 known = known_of(stack.enter_context(open_book(args.book, args.table, args.program)))
-            bounds, findings = looked_at(args, known)
-        args.write(bounds, findings)
-        wrong = any(finding.is_wrong for finding in findings) or not all(each.fits for each in bounds)
+            looked = looked_at(args, known, last_book(args, known))
+        args.write(looked, args.fail_above)
+        above = (
+            looked.implausible is not None and args.fail_above is not None and looked.implausible.above(args.fail_above)
+        )
+        status = WRONG if looked.is_wrong else ABOVE if above else 0
 
-    return run_job(job) or (WRONG if wrong else 0)
+    return run_job(job) or status

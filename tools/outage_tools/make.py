@@ -135,10 +135,10 @@ class Progress:
 
 def check_exports(args: argparse.Namespace) -> None:
     """Shows what check.py shows, and ends the run where something is wrong."""
-    bounds, findings = check.looked_at(args, Known())
-    check.write_text(bounds, findings)
+    looked = check.looked_at(args, Known())
+    check.write_text(looked)
     sys.stdout.flush()
-    if any(finding.is_wrong for finding in findings) or not all(bound.fits for bound in bounds):
+    if looked.is_wrong:
         raise ExportsWrong
 
 

@@ -13,6 +13,7 @@ from dataclasses import dataclass, field
 from outage_tools.commands import read_commands
 from outage_tools.compare import Checked
 from outage_tools.errors import BookError
+from outage_tools.feeding import Feeding
 from outage_tools.references import switchings_of
 from outage_tools.rows import Block, Book, Entry
 from outage_tools.sweep import LONGEST_MOMENTARY, Run, Supply, blocks_by_section, bounds_of_lives
@@ -82,21 +83,28 @@ class Tickets:
     """The tickets of a book by their names, the ticket of each entry, the interruptions of none, and the runs of each section in
     their order with the ticket to which they belong."""
 
+    feeding: Feeding
     by_name: dict[str, Ticket] = field(default_factory=dict)
     of_entry: dict[int, str] = field(default_factory=dict)
     of_none: list[Part] = field(default_factory=list)
     runs: dict[int, list[tuple[Run, str | None]]] = field(default_factory=lambda: defaultdict(list))
+    blocks: dict[int, list[Block]] = field(default_factory=dict)  # of each section
 
     def owner(self, run: Run, ender: Entry | None) -> str | None:
         """The ticket to which the interruptions of a run belong."""
         owners = (self.of_entry.get(entry.number) for entry in (run.cutter, ender) if entry)
         return next((owner for owner in owners if owner is not None), None)
 
-    def out_at(self, section: int, second: int) -> str | None:
-        """The ticket of the run in which a section was without supply before and after a second."""
+    def run_at(self, section: int, second: int) -> tuple[Run, str | None] | None:
+        """The run in which a section was without supply before and after a second, with its ticket."""
         runs = self.runs.get(section, [])
         place = bisect_left(runs, second, key=lambda pair: pair[0].since) - 1
-        return runs[place][1] if place >= 0 and second < runs[place][0].until else None
+        return runs[place] if place >= 0 and second < runs[place][0].until else None
+
+    def out_at(self, section: int, second: int) -> str | None:
+        """The ticket of that run; None where there is none."""
+        run = self.run_at(section, second)
+        return run[1] if run is not None else None
 
 
 def enders_of(book: Book) -> dict[tuple[int, int], Entry]:
@@ -143,11 +151,11 @@ def tickets_of(found: Checked, prefix: str = "OMS-", known: Iterable[str] = ()) 
     """The tickets of a book and what belongs to each, in the order in which they were entered."""
     book = found.book
     of_entry = tickets_of_entries(found, prefix, known)
-    tickets = Tickets(of_entry=of_entry)
+    blocks = blocks_by_section(book)
+    tickets = Tickets(Feeding(book), of_entry=of_entry, blocks=blocks)
     for number, name in of_entry.items():
         tickets.by_name.setdefault(name, Ticket(name)).entries.append(book.entries[number - 1])
     enders = enders_of(book)
-    blocks = blocks_by_section(book)
     for run in found.runs:
         ender = enders.get((run.section, run.until))
         owner = tickets.owner(run, ender)

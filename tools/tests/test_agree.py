@@ -101,6 +101,19 @@ class Worked(unittest.TestCase):
             },
         )
 
+    def test_customers_who_were_out_already_behind_what_was_opened(self) -> None:
+        """T-1 opens DA while C is out by another entry: of a ticket, or of none."""
+        for prefix, owner in (("OMS-T-2-1-", "T-2"), ("DESK-", "no ticket")):
+            with self.subTest(owner):
+                self.found(
+                    (f"{prefix}O", "DC", "open", 100),
+                    ("OMS-T-1-1-O", "DA", "open", 400),
+                    ("OMS-T-1-1-C", "DA", "close", 1_000),
+                    (f"{prefix}C", "DC", "close", 1_300),
+                )
+                text = f"2 customers behind what it opened were out already by {owner}"
+                self.assertEqual(self.whys("T-1,9,90\n")["T-1"], text)
+
     def test_an_outage_that_no_ticket_began(self) -> None:
         """DESK-1 is nobody's ticket: the interruption is that of the ticket that ended it, or of none."""
         found = self.found(
@@ -190,6 +203,22 @@ class Worked(unittest.TestCase):
         self.assertEqual(self.whys(rows), {"T-1": "minutes that are rounded", "T-2": "minutes that are rounded"})
         rows = "T-1,9,154.6\nT-2,,\n"
         self.assertEqual(self.whys(rows), {"T-1": "", "T-2": "the OMS's file leaves its counts empty"})
+
+    def test_a_status_for_what_differs(self) -> None:
+        """By one customer of ten is by 10 %; what rounding explains isn't a difference."""
+        self.found(("OMS-T-1-1-O", "DA", "open", 1_000), ("OMS-T-1-1-C", "DA", "close", 2_000))
+        head = "ticket,customers,customer_minutes\n"
+        cases = [("T-1,9,154.5\n", "0%", 0), ("T-1,10,150\n", "10%", 0), ("T-1,10,150\n", "9.9%", 3)]
+        cases += [("T-1,9,300\n", "49%", 3), ("T-1,9,300\n", "50%", 0), ("T-1,0,0\n", "99%", 3), ("T-1,,\n", "0%", 0)]
+        for rows, share, status in [*cases, ("T-1,9,150\nT-2,1,\n", "9%", 3), ("T-1,9,150\n", "1", 64)]:
+            with self.subTest(rows=rows, share=share):
+                counts = written("counts.csv", head + rows)
+                done = support.run_tool("agree", self.book, counts, "--fail-above", share, *PROGRAM)
+                self.assertEqual(done.returncode, status, done.stdout + done.stderr)
+        done = support.run_tool(
+            "agree", self.book, written("counts.csv", f"{head}T-1,10,150\n"), "--fail-above", "5%", *PROGRAM
+        )
+        self.assertIn("\n# Tickets differ by 10.000% of what the OMS counts; --fail-above 5.000%.\n", done.stdout)
 
     def test_a_part_of_the_report(self) -> None:
         """The tickets of both sides, those that rounding doesn't explain set apart; only where the counts are given."""

@@ -31,6 +31,7 @@ class Conversion:
     known: Known
     dates: tuple[str, ...] = ()
     cancelled: frozenset[str] = frozenset()  # words of a status
+    ordinary: frozenset[str] = frozenset()
     complaints: Complaints = field(default_factory=Complaints)
     refs: set[str] = field(default_factory=set)  # of the commands of this run
 

@@ -28,7 +28,7 @@ from outage_tools.oms.conversion import Conversion
 from outage_tools.oms.fields import LATEST_MOMENT
 from outage_tools.oms.files import Export, Format, Row, add_format_arguments, format_of
 from outage_tools.oms.known import Known, known_of
-from outage_tools.oms.steps import StepReader, cancelled_words
+from outage_tools.oms.steps import Step, StepReader, cancelled_words, ordinary_words
 from outage_tools.oms.writing import whole_file, whole_output
 from outage_tools.rows import Period, period_of
 from outage_tools.zone import Zone
@@ -59,6 +59,7 @@ class Run:
     conversion: Conversion
     format: Format
     files: list[Notes] = field(default_factory=list)
+    steps: list[Step] = field(default_factory=list)  # of outages, as far as they can be read
 
     def rows(self, export: str, columns: tuple[str, ...], required: tuple[str, ...]) -> tuple[Iterable[Row], Notes]:
         """The rows of an export, none where it isn't given, and the notes on them."""
@@ -81,7 +82,9 @@ class Run:
         yield from people.read(*self.rows("customers", customers.COLUMNS, customers.REQUIRED))
         rows, notes = self.rows("oms", outages.COLUMNS, outages.REQUIRED)
         reader = StepReader(conversion, grid, found, args.prefix, args.crew)
-        yield from outages.Outages(conversion, grid, reader, args.overlaps == "join", notes).commands(rows)
+        events = outages.Outages(conversion, grid, reader, args.overlaps == "join", notes)
+        yield from events.commands(rows)
+        self.steps = events.read
         if not conversion.complaints.found:
             self.check_given(grid)
 
@@ -163,6 +166,13 @@ def add_export_arguments(parser: Parser, are_required: bool = False) -> None:
         default=[],
         help="a value of the column status that means a mistake, apart from cancelled; may be given several times",
     )
+    parser.add_argument(
+        "--ordinary",
+        metavar="WORD",
+        action="append",
+        default=[],
+        help="a value of the column status that isn't worth a note, as closed, completed and restored aren't",
+    )
     parser.add_argument("--crew", default="OMS", help="the crew if a row names none (OMS)")
     add_format_arguments(parser)
 
@@ -212,8 +222,8 @@ def conversion_of(args: argparse.Namespace, known: Known) -> Conversion:
             raise BookError(f"the period can't be read: {error}") from None
         if period.first < 0 or period.end > LATEST_MOMENT:
             raise BookError("the period isn't between 1970 and 5138, as a book's seconds have to be")
-    cancelled = cancelled_words(args.cancelled)
-    return Conversion(args.zone or (period.zone if period else None), period, known, tuple(args.dates), cancelled)
+    words = cancelled_words(args.cancelled), ordinary_words(args.ordinary)
+    return Conversion(args.zone or (period.zone if period else None), period, known, tuple(args.dates), *words)
 
 
 def write_report(path: Path, run: Run) -> None:

@@ -45,10 +45,11 @@ class Outages:
     joins: bool
     notes: Notes
     rows: dict[str, int] = field(default_factory=dict)  # of each step's reference
+    read: list[Step] = field(default_factory=list)
 
     def commands(self, rows: Iterable[Row]) -> Iterator[list[str]]:
         """The commands of all rows, returns first (order.py); those of one second in the order of the file."""
-        steps = list(self.steps(rows))
+        self.read = steps = list(self.steps(rows))
         period = self.conversion.period
         if period is None:
             return

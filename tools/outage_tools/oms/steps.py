@@ -1,6 +1,7 @@
 """Outages and steps of restoration, row by row, of an outage management system."""
 
 import difflib
+import re
 from collections.abc import Iterable
 from dataclasses import dataclass, field
 from functools import lru_cache
@@ -17,6 +18,8 @@ MOST_STEP = 4
 MOST_CREW = 16
 CANCELLED_STEPS = "steps that were cancelled"
 CANCELLED = ("cancelled", "canceled")
+ORDINARY = ("closed", "complete", "completed", "finished", "resolved", "restored")  # statuses of a ticket that is over
+OFFSET = re.compile("(Z|[+-][0-9]{2}(:?[0-9]{2})?)$")  # behind a moment
 MOST_STATUSES = 20  # words of the status that are told one by one
 
 
@@ -40,6 +43,7 @@ class Step:
     cause: int
     crew: str
     zone: Zone | None
+    is_local: bool = False  # one of its moments is by the clock of the zone
 
     def ref_of(self, leaves: bool) -> str:
         return f"{self.ref}-{'O' if leaves == self.is_closed else 'C'}"
@@ -72,6 +76,16 @@ def cancelled_words(words: Iterable[str] = ()) -> frozenset[str]:
     return frozenset({*CANCELLED, *(word.strip().lower() for word in words)})
 
 
+def ordinary_words(words: Iterable[str] = ()) -> frozenset[str]:
+    """The words of a status that say nothing worth a note, the user's among them, in small letters."""
+    return frozenset({*ORDINARY, *(word.strip().lower() for word in words)})
+
+
+def is_local(row: Row) -> bool:
+    """One of the row's moments has no offset of its own."""
+    return any(row[column] and not OFFSET.search(row[column]) for column in ("out", "restored"))
+
+
 @dataclass
 class StepReader:
     """What rows are read with."""
@@ -84,17 +98,20 @@ class StepReader:
     statuses: set[str] = field(default_factory=set)  # words that aren't looked at
 
     def is_cancelled(self, row: Row, notes: Notes) -> bool:
-        """The ticket was a mistake. Other words of a status mean nothing here, and are told; one that may be meant for it is
-        refused."""
+        """The ticket was a mistake. Other words of a status mean nothing here, and are told, but for those of a ticket that is
+        over; one that may be meant for it is refused."""
         status = row["status"].lower()
         if not status or status in self.conversion.cancelled:
             return bool(status)
+        if status in self.conversion.ordinary:
+            return False
         if is_alike(status):
             raise BadRow(f"status {shown(row['status'])} may be meant for {CANCELLED[0]}")
         if len(self.statuses) < MOST_STATUSES:
             self.statuses.add(status)
         word = f"the status {shown(row['status'])}" if status in self.statuses else "other values of the status"
-        notes.noticed(f"rows with {word}, which are taken as others (--cancelled WORD names what means a mistake)", row)
+        advice = "--cancelled WORD names what means a mistake, --ordinary WORD what doesn't"
+        notes.noticed(f"rows with {word}, which are taken as others ({advice})", row)
         return False
 
     def read(self, row: Row, notes: Notes) -> Step:
@@ -118,7 +135,7 @@ class StepReader:
             return Step(*place, device, True, begin, end, code, crew, zone)
         is_closed = self.network.devices[device][1]
         leave, back = (out, restored) if is_closed else (restored, out)
-        found = Step(*place, device, is_closed, leave, back, code, crew, zone)
+        found = Step(*place, device, is_closed, leave, back, code, crew, zone, is_local(row))
         self.check_order(found)
         return found
 

@@ -1,0 +1,1 @@
+"""What is implausible in exports, though nothing contradicts it: each kind with what it weighs, estimated by the rows alone."""
