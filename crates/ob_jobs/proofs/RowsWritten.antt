@@ -1,5 +1,5 @@
 -- The lines of interruption rows that a sink wrote.
-use Rattle.std.proofs.Common.{◌≡◌, ℕ, List, [], ◌∷◌, ◌++◌, length, take, drop, Option, None, Some, Result, Ok, Err, sym, ap, subst, ◌∙◌}
+use Rattle.std.proofs.Common.{◌≡◌, ℕ, List, [], ◌∷◌, ◌++◌, length, take, drop, Option, Some, Result, Ok, Err, sym, ap, subst, ◌∙◌}
 use Rattle.std.specs.Io.KnownBytes.{Appends}
 use Rattle.std.proofs.KnownBytes.{Appends-trans}
 use Rattle.std.proofs.lemmas.List.{append_assoc}
@@ -13,11 +13,11 @@ use Rattle.ob_stream.specs.Watching.{HasJustFailed, watched_bytes}
 use Rattle.ob_stream.specs.declared.watched.Watched.{Watched}
 use Rattle.ob_state.specs.State.{BookState}
 use Rattle.ob_rows.specs.Rows.{interruption_rows}
-use Rattle.ob_rows.specs.RowText.{interruptions_text, row_header, row_line, row_lines}
+use Rattle.ob_rows.specs.RowText.{row_header, row_line, row_lines}
 use Rattle.ob_rows.specs.Sinks.{FailsAmong, HandsRows, Takes, TakesAll}
 use Rattle.ob_rows.specs.declared.row.InterruptionRow.{InterruptionRow}
 use Rattle.ob_jobs.specs.declared.row_lines.RowLines.{RowLines}
-use Rattle.ob_jobs.specs.Exporting.{AppendsPart, PutsLine}
+use Rattle.ob_jobs.specs.Exporting.{PutsLine}
 use Rattle.ob_jobs.specs.Rows.{RowsOfBook, WritesRows, WritesRowsOf}
 use Rattle.ob_jobs.proofs.Written.{front_part, headed_part, nothing, take_drop}
 

@@ -1,9 +1,8 @@
 -- A sink that takes one list of rows and then another takes both, or fails among them.
 use Rattle.std.proofs.Common.{◌≡◌, ℕ, ◌+◌, ◌<◌, ◌≤◌, List, [], ◌∷◌, ◌++◌, length, take, drop, get_or, Result, Ok, Err, IsErrAnd, refl, sym, ap, subst, ◌∙◌, arith}
-use Rattle.std.specs.Prelude.{⊤}
-use Rattle.std.specs.List.{flat_map, range_with_len}
+use Rattle.std.specs.List.{flat_map}
 use Rattle.std.proofs.lemmas.Grind.{flat_map-append}
-use Rattle.std.proofs.lemmas.List.{append_assoc, append-nil, length-append, take-append-drop, take_all, take_more, drop_more}
+use Rattle.std.proofs.lemmas.List.{append_assoc, append-nil, length-append, take-append-drop, take_all, take_more}
 use Rattle.ob_base.specs.declared.stop.Fault.{Fault}
 use Rattle.ob_rows.specs.declared.row.InterruptionRow.{InterruptionRow}
 use Rattle.ob_rows.specs.Sinks.{Takes, TakesAll, FailsAmong, HandsRows}

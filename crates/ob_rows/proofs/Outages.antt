@@ -1,6 +1,6 @@
 -- The rows that are found from a section's outage intervals are those of its customers' interruptions.
-use Rattle.std.proofs.Common.{◌≡◌, ◌⊎◌, ℕ, ◌+◌, ◌-◌, ◌^◌, ◌<◌, ◌≤◌, ◌==◌, ◌&&◌, Bool, true, false, cond, not, List, [], ◌∷◌, ◌++◌, map, length, get_or, take, Option, Some, None, IsSome, IsTrue, suc, zero, refl, sym, ap, ap₂, subst, ◌∙◌, inl, inr, arith, eq-eqb}
-use Rattle.std.specs.List.{All, filter, flat_map, prefix_len, range_with_len, Contains}
+use Rattle.std.proofs.Common.{◌≡◌, ℕ, ◌+◌, ◌-◌, ◌<◌, ◌≤◌, ◌==◌, Bool, true, not, List, [], ◌∷◌, ◌++◌, map, length, get_or, Option, Some, suc, zero, refl, sym, ap, ap₂, ◌∙◌, inl, inr, arith, eq-eqb}
+use Rattle.std.specs.List.{All, filter, flat_map, prefix_len, range_with_len}
 use Rattle.std.specs.Option.{option_and_then, option_map_or}
 use Rattle.std.proofs.lemmas.Bool.{cases_Bool, lt-ltb}
 use Rattle.std.proofs.lemmas.List.{length-map}
@@ -15,18 +15,17 @@ use Rattle.ob_cust.specs.Blocks.{service_of}
 use Rattle.ob_cust.specs.declared.Block.{Block}
 use Rattle.ob_cust.specs.declared.SectionBlock.{SectionBlock}
 use Rattle.ob_sweep.specs.Cutters.{cutter_at}
-use Rattle.ob_sweep.specs.Runs.{History, IsRun, as_run, history, runs_between, start_of}
+use Rattle.ob_sweep.specs.Runs.{History, IsRun, as_run, history, start_of}
 use Rattle.ob_sweep.specs.Timeline.{IsSection, runs_at}
 use Rattle.ob_sweep.specs.declared.Run.{Run}
 use Rattle.ob_time.specs.Calendar.{first_second_of, end_second_of}
 use Rattle.ob_post.proofs.RunParts.{start_is}
-use Rattle.ob_index.specs.Interruptions.{interruptions}
-use Rattle.ob_index.specs.Tallies.{has_second, part_in_service, parts_in_service}
+use Rattle.ob_index.specs.Tallies.{has_second, parts_in_service}
 use Rattle.ob_index.proofs.Parts.{parts_are_interruptions}
 use Rattle.ob_state.specs.State.{BookState}
 use Rattle.ob_state.specs.States.{AreRunsOf}
 use Rattle.ob_rows.specs.Services.{Service, services_of}
-use Rattle.ob_rows.specs.Rows.{customer_with, entry_at, row_of, rows_of_node, rows_of_service}
+use Rattle.ob_rows.specs.Rows.{customer_with, row_of, rows_of_node, rows_of_service}
 use Rattle.ob_rows.specs.Outages.{IsOutage, part_of_run, rows_of_block, rows_of_run}
 use Rattle.ob_rows.specs.declared.row.InterruptionRow.{InterruptionRow}
 
@@ -42,7 +41,7 @@ starts_there test a b i x =
           rw here (elim (cases_Bool (i.since == a)) [ inl t ↦ rw t refl | inr f ↦ rw f off ])
     ]
 
-reaches : (test : ℕ → Bool) (n s : ℕ) → ((t : ℕ) → s ≤ t → t < s + n → test t ≡ true) → prefix_len test (range_with_len s n) ≡ n
+pub reaches : (test : ℕ → Bool) (n s : ℕ) → ((t : ℕ) → s ≤ t → t < s + n → test t ≡ true) → prefix_len test (range_with_len s n) ≡ n
 reaches test zero s h = refl
 reaches test (suc n) s h = rw (h s (omega arith) (omega arith)) (omega (arith, reaches test n (s + 1) (λ t l k. h t (omega arith) (omega arith))))
 

@@ -1,7 +1,7 @@
 -- The blocks of a section are its customers' services, each with its number of customers.
-use Rattle.std.proofs.Common.{◌≡◌, ◌⊎◌, ℕ, ◌+◌, ◌*◌, ◌<◌, ◌≤◌, ◌==◌, ◌&&◌, Bool, true, false, cond, nat_eq, List, [], ◌∷◌, Option, length, map, get_or, suc, zero, refl, sym, ap, subst, ◌∙◌, inl, inr, arith}
+use Rattle.std.proofs.Common.{◌≡◌, ◌⊎◌, ℕ, ◌+◌, ◌*◌, ◌<◌, ◌==◌, ◌&&◌, Bool, true, cond, nat_eq, List, [], ◌∷◌, Option, length, map, get_or, suc, refl, sym, ap, subst, ◌∙◌, inl, inr, arith}
 use Rattle.std.specs.Prelude.{⊤}
-use Rattle.std.specs.List.{All, AllPairs, count_by, sum_by}
+use Rattle.std.specs.List.{All}
 use Rattle.std.specs.Option.{option_eq}
 use Rattle.std.specs.Ordering.{is_eq, ordering_reverse}
 use Rattle.std.specs.declared.cmp.Ordering.{Ordering}
@@ -49,7 +49,7 @@ before_more : (s t : Service) (ts : List Service) → IsBefore s t → IsBeforeA
 before_more s t [] l all = tt
 before_more s t (u ∷ ts) l all = (chained s t u l all.0, before_more s t ts l all.1)
 
-before_among : (s t : Service) (ts : List Service) → IsBeforeAll s ts → IsAmong t ts → IsBefore s t
+pub before_among : (s t : Service) (ts : List Service) → IsBeforeAll s ts → IsAmong t ts → IsBefore s t
 before_among s t [] all a = elim a [ ]
 before_among s t (u ∷ ts) all (inl same) = subst (IsBefore s) (sym same) all.0
 before_among s t (u ∷ ts) all (inr more) = before_among s t ts all.1 more
@@ -127,7 +127,7 @@ rise_put s [] rise = (tt, tt)
 rise_put s (t ∷ rest) rise = rise_put_at (service_cmp s t) s t rest refl rise (rise_put s rest rise.1)
 
 -- ---- the services of customers
-rise_services : (v : ℕ) (roll : List Customer) → Rise (services_of v roll)
+pub rise_services : (v : ℕ) (roll : List Customer) → Rise (services_of v roll)
 rise_services v [] = tt
 rise_services v (c ∷ roll) = elim (cases_Bool (c.section == v)) [
   | inl here ↦ rw here (rise_put (c.since, c.until) (services_of v roll) (rise_services v roll))

@@ -4,3 +4,4 @@ pub mod Rows
 pub mod RowText
 pub mod Sinks
 pub mod Outages
+pub mod RowLaws

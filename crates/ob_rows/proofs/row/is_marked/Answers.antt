@@ -1,4 +1,4 @@
-use Rattle.std.proofs.Common.{◌≡◌, ℕ, List, Option, sym, ap₂, subst, ◌∙◌}
+use Rattle.std.proofs.Common.{ℕ, List, Option, sym, ap₂, ◌∙◌}
 use Rattle.ob_base.specs.declared.interval.Interval.{Interval}
 use Rattle.ob_time.specs.Calendar.{Calendar}
 use Rattle.ob_index.specs.Interruptions.{is_marked}

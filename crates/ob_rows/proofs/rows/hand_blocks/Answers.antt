@@ -1,4 +1,4 @@
-use Rattle.std.proofs.Common.{None, List, refl, arith}
+use Rattle.std.proofs.Common.{None, refl, arith}
 use Rattle.ob_cust.specs.declared.SectionBlock.{SectionBlock}
 use Rattle.ob_rows.specs.Outages.{rows_of_block}
 use Rattle.ob_rows.proofs.Handing.{err_from, hands_failing, hands_more}

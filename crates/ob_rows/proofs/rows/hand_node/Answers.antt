@@ -1,11 +1,11 @@
-use Rattle.std.proofs.Common.{◌≡◌, ◌+◌, ◌<◌, ◌≤◌, ◌-◌, ◌*◌, ◌^◌, ℕ, List, length, map, is_some, Option, Some, Ok, Err, Result, IfOk, refl, sym, ap, subst, ◌∙◌, arith}
+use Rattle.std.proofs.Common.{◌≡◌, ◌+◌, ◌≤◌, ◌*◌, ◌^◌, ℕ, List, length, map, is_some, Some, Ok, Err, Result, IfOk, sym, ap, subst, ◌∙◌, arith}
 use Rattle.std.specs.List.{All, flat_map}
 use Rattle.ob_base.specs.declared.stop.Fault.{Fault}
 use Rattle.ob_net.specs.Network.{Network, home_feeder}
 use Rattle.ob_cust.specs.Blocks.{service_of}
 use Rattle.ob_cust.specs.declared.Customer.{Customer}
 use Rattle.ob_cust.specs.declared.SectionBlock.{SectionBlock}
-use Rattle.ob_sweep.specs.Timeline.{IsSection, runs_at}
+use Rattle.ob_sweep.specs.Timeline.{IsSection}
 use Rattle.ob_sweep.specs.declared.Run.{Run}
 use Rattle.ob_time.specs.Calendar.{Calendar, first_second_of, end_second_of}
 use Rattle.ob_state.specs.State.{BookState}
