@@ -5,7 +5,7 @@
 //! in CSV. Promises that the rows are exactly the customers' interruptions, in order, each with its
 //! number of customers, its cause, the entry that cut the section off, and whether it begins on a
 //! major event day; that the rows add up to the book's customer-seconds without supply and to its
-//! counts of interruptions; and each byte of a line. `ob_jobs` uses this crate.
+//! counts of interruptions; and which bytes a line has. `ob_jobs` uses this crate.
 #![tactic(auto)]
 
 mod laws;
