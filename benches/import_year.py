@@ -3,9 +3,9 @@
     python3 benches/import_year.py [--entries N] [--customers N] [--lives N] [--seed N] [--program FILE] [--folder FOLDER]
 
 It makes the year as CSV, then a book: `init`, `import`, the same import again, `table`, `export`, `interruptions`,
-`audit`. Its rows are then read by Python's sqlite3 (benches/read_rows.py), which a load or an audit is compared with. Then the plain office
-(benches/plain_office.py) imports the same text, and all rows of both books' eleven tables are compared. Both books lie in
-the folder, bench-data/ where none is named: a commit takes what its disk takes.
+`audit`. Its rows are then read by Python's sqlite3 (benches/read_rows.py), which a load or an audit is compared with.
+Then the plain office (benches/plain_office.py) imports the same text, and all rows of both books' eleven tables are
+compared. Both books lie in the folder, bench-data/ where none is named: a commit takes what its disk takes.
 """
 
 import argparse
