@@ -2,10 +2,10 @@
 
     python3 benches/import_year.py [--entries N] [--customers N] [--lives N] [--seed N] [--program FILE] [--folder FOLDER]
 
-It makes the year as CSV, then a book: `init`, `import`, the same import again, `table`, `export`, `audit`. Its rows are
-then read by Python's sqlite3 (benches/read_rows.py), which a load or an audit is compared with. Then the plain office
-(benches/plain_office.py) imports the same text, and all rows of both books' eleven tables are compared. Both books lie in
-the folder, bench-data/ where none is named: a commit takes what its disk takes.
+It makes the year as CSV, then a book: `init`, `import`, the same import again, `table`, `export`, `interruptions`,
+`audit`. Its rows are then read by Python's sqlite3 (benches/read_rows.py), which a load or an audit is compared with.
+Then the plain office (benches/plain_office.py) imports the same text, and all rows of both books' eleven tables are
+compared. Both books lie in the folder, bench-data/ where none is named: a commit takes what its disk takes.
 """
 
 import argparse
@@ -78,7 +78,7 @@ def main() -> int:
     words = parser.parse_args()
     words.folder.mkdir(exist_ok=True)
     text, book, plain = (words.folder / name for name in ["import.csv", "import.db", "import-plain.db"])
-    moves = words.folder / "import-moves.csv"
+    moves, rows = words.folder / "import-moves.csv", words.folder / "import-interruptions.csv"
     make_text(text, words)
     clear(book, plain)
     print("| Job | clock, s | processor, s | peak, MB | says |")
@@ -90,6 +90,7 @@ def main() -> int:
     show("the same import again", [*job, "import", "--book", book, text])
     show("table", [*job, "table", "--book", book])
     show("export", [*job, "export", "--book", book, moves])
+    show("interruptions", [*job, "interruptions", "--book", book, rows])
     show("audit", [*job, "audit", "--book", book])
     show("its rows read in Python", [sys.executable, BENCHES / "read_rows.py", book])
     show("plain office, import", [sys.executable, BENCHES / "plain_office.py", text, "--book", plain])

@@ -1,5 +1,5 @@
 -- The lines of interruption rows that a sink wrote.
-use Rattle.std.proofs.Common.{◌≡◌, ℕ, List, [], ◌∷◌, ◌++◌, length, take, drop, Option, None, Some, Result, Ok, Err, sym, ap, subst, ◌∙◌}
+use Rattle.std.proofs.Common.{◌≡◌, ℕ, List, [], ◌∷◌, ◌++◌, length, take, drop, Option, Some, Result, Ok, Err, sym, ap, subst, ◌∙◌}
 use Rattle.std.specs.Io.KnownBytes.{Appends}
 use Rattle.std.proofs.KnownBytes.{Appends-trans}
 use Rattle.std.proofs.lemmas.List.{append_assoc}
@@ -13,13 +13,19 @@ use Rattle.ob_stream.specs.Watching.{HasJustFailed, watched_bytes}
 use Rattle.ob_stream.specs.declared.watched.Watched.{Watched}
 use Rattle.ob_state.specs.State.{BookState}
 use Rattle.ob_rows.specs.Rows.{interruption_rows}
-use Rattle.ob_rows.specs.RowText.{interruptions_text, row_header, row_line, row_lines}
+use Rattle.ob_rows.specs.RowText.{row_header, row_line, row_lines}
 use Rattle.ob_rows.specs.Sinks.{FailsAmong, HandsRows, Takes, TakesAll}
 use Rattle.ob_rows.specs.declared.row.InterruptionRow.{InterruptionRow}
 use Rattle.ob_jobs.specs.declared.row_lines.RowLines.{RowLines}
-use Rattle.ob_jobs.specs.Exporting.{AppendsPart, PutsLine}
+use Rattle.ob_jobs.specs.Exporting.{PutsLine}
 use Rattle.ob_jobs.specs.Rows.{RowsOfBook, WritesRows, WritesRowsOf}
 use Rattle.ob_jobs.proofs.Written.{front_part, headed_part, nothing, take_drop}
+
+abbrev Rows : Type 0
+Rows = List InterruptionRow
+
+parts_are : (b : BookState) (all front rest : Rows) → all ≡ front ++ rest → row_lines b all ≡ row_lines b front ++ row_lines b rest
+parts_are b all front rest is = ap (row_lines b) is ∙ flat_map-append (row_line b) front rest
 
 module _ {W : Type 0} (contents : W → Option (List ℕ)) where
   -- ---- a text behind a head
@@ -53,9 +59,6 @@ module _ {T W : Type 0} (contents : W → Option (List ℕ)) where
   abbrev bytes_of : RowLines T W → Option (List ℕ)
   bytes_of v = watched_bytes contents v.writer.now
 
-  abbrev Rows : Type 0
-  Rows = List InterruptionRow
-
   -- ---- whatever came
   same_name : (old new : RowLines T W) (xs : Rows) → TakesAll puts old xs new → new.writer.ghost_name ≡ old.writer.ghost_name
   same_name old new [] is = ap (λ (v : RowLines T W). v.writer.ghost_name) is
@@ -77,9 +80,6 @@ module _ {T W : Type 0} (contents : W → Option (List ℕ)) where
   all_lines b old new (x ∷ xs) of h =
       Appends-trans _ _ _ _ _ (subst (λ s. Appends (bytes_of old) (bytes_of h.0) (row_line s x)) of h.1.2)
       (all_lines b h.0 new xs (h.1.1 ∙ of) h.2)
-
-  parts_are : (b : BookState) (all front rest : Rows) → all ≡ front ++ rest → row_lines b all ≡ row_lines b front ++ row_lines b rest
-  parts_are b all front rest is = ap (row_lines b) is ∙ flat_map-append (row_line b) front rest
 
   -- what a fault of the sink leaves
   failed_text : (b : BookState) (was is : RowLines T W) (all : Rows) (fault : AFault) → was.book.now.state ≡ b → FailsAmong puts was all fault is

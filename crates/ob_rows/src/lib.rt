@@ -4,8 +4,8 @@
 //! Hands the rows of a book to a sink, one after another, without memory, and makes the line of a row
 //! in CSV. Promises that the rows are exactly the customers' interruptions, in order, each with its
 //! number of customers, its cause, the entry that cut the section off, and whether it begins on a
-//! major event day; and that the rows add up to the book's customer-seconds without supply and to its
-//! counts of interruptions. `ob_jobs` uses this crate.
+//! major event day; that the rows add up to the book's customer-seconds without supply and to its
+//! counts of interruptions; and which bytes a line has. `ob_jobs` uses this crate.
 #![tactic(auto)]
 
 mod laws;

@@ -12,7 +12,7 @@ returns g c =
     let rows = interruption_rows b in
     let was = c.new-lines.result in
     let end = c.each_row.new.sink in
-    let handed = c.each_row.ensures in
+    let handed = c.each_row.ensures.hands in
     let name = name_after g.F.Write.contents was end rows c.each_row.result handed in
     let same : end.writer.now ≡ c.file-1.given.0 = search rules in
     subst₂ (λ v w. WritesRows g.F.Write.contents (watched_bytes g.F.Write.contents v) w (row_lines b rows) (length rows) c.each_row.result)
