@@ -1,5 +1,5 @@
 -- What any list of calls on a keeper comes to, with crashes and openings between them.
-use Rattle.std.specs.Prelude.{◌≡◌, ◌⊎◌, ⊤, ℕ, true, List, [], ◌++◌, length, Contains, Option, Some, None, Result, Ok, Err, IsErr}
+use Rattle.std.specs.Prelude.{◌≡◌, ◌⊎◌, ⊤, ℕ, ◌<◌, ◌^◌, true, List, [], ◌++◌, length, Contains, Option, Some, None, Result, Ok, Err, IsErr, IsSome}
 use Rattle.std.specs.List.{AllByRecursion}
 use Rattle.ob_base.specs.declared.stop.Stop.{Stop}
 use Rattle.ob_base.specs.declared.stop.Stop.TheVariants.{Refused, Fault}
@@ -14,10 +14,11 @@ use Rattle.ob_book.specs.Acts.{ActState, Referenced, is_same, start}
 use Rattle.ob_book.specs.Forecasts.{forecast_text_of}
 use Rattle.ob_import.specs.Imports.{Says}
 use Rattle.ob_import.specs.Reports.{AreRows}
-use Rattle.ob_store.specs.Calls.{HasCommandCause, OpensAfter}
+use Rattle.ob_store.specs.Calls.{ForgetsNoFault, HasCommandCause, HasWorkCause, OpensAfter}
 use Rattle.ob_store.specs.Keepers.{Ghosts, IsClean, KeeperValue, StoresNumbers, Ties}
+use Rattle.ob_requests.specs.Message.{Message}
 use Rattle.ob_lists.specs.Importing.{Ended, body_of, counted}
-use Rattle.ob_lists.specs.Streaming.{Accepts, AnswersStream, Stream}
+use Rattle.ob_lists.specs.Streaming.{Accepts, Acknowledges, AnswersStream, Sends, Stream}
 use Rattle.ob_lists.specs.Standing.{InUpgrade, KeptOld, MayBe, Stands, Told, acknowledged, imported, streamed}
 
 module _ {S R : Type 0} (g : Ghosts S) (h : Ghosts R) where
@@ -79,6 +80,14 @@ module _ {S : Type 0} (g : Ghosts S) where
   abbrev pub ActsForCause : {X : Type 0} → (ActState → Type 0) → KeeperValue S → KeeperValue S → Referenced → Result X Stop → Type 0
   ActsForCause Is old new a result = (x : ActState) × Is x × HasCommandCause g old new x a result
 
+  -- What is known of the store's faults after a call, which reports that the store failed or doesn't: none is forgotten; hidden row
+  -- numbers 1, 2, 3 and so on stay so, whichever book there is; and then such a report over a keeper's book has its cause.
+  pub record TellsOverList (old new : KeeperValue S) (failed : Type 0) : Type 0 where
+    pub forgets : ForgetsNoFault g old new
+    pub numbered : (b : ActState) (told : List Told) → Stands g (MayBe b told) old → StoresNumbers g old → StoresNumbers g new
+    pub cause : IsClean g new → (b : ActState) (told : List Told) → Stands g (MayBe b told) old → IsSome old.book → StoresNumbers g old → failed
+        → (x : ActState) × MayBe b told x × HasWorkCause g old new x
+
   -- a new book of the period that the texts name stands, with what was told since; and whatever a crash leaves has hidden row numbers
   -- 1, 2, 3 and so on
   abbrev pub BegunNumbered : List ℕ → ℕ → List ℕ → List Told → KeeperValue S → Type 0
@@ -113,3 +122,11 @@ abbrev pub StreamsLaw : Type 0
 StreamsLaw =
     (b x : ActState) (told : List Told) (stream : Stream) → MayBe b told x → Contains told (streamed stream)
     → (y : ActState) × (z : ActState) × (it : AnswersStream y stream z) × ((a : Referenced) → Accepts y it.requests a → Holds x a)
+
+-- where the bytes of a served stream are known, and those that were written for it, fewer than 2^64: each command that its requests
+-- posted and that a whole reply with status 200 was written to is in the book
+abbrev pub WrittenLaw : Type 0
+WrittenLaw =
+    (b x : ActState) (told : List Told) (stream : Stream) → MayBe b told x → Contains told (streamed stream)
+    → (sent had got : List ℕ) → stream.bytes ≡ Some sent → stream.had ≡ Some had → stream.has ≡ Some (had ++ got) → length got < 2 ^ 64
+    → (ms : List Message) (a : Referenced) → Sends sent ms → Acknowledges ms got a → Holds x a
