@@ -1,5 +1,5 @@
 -- One answer, from what was made of it and what was written.
-use Rattle.std.proofs.Common.{◌≡◌, ℕ, ◌<◌, ◌^◌, Bool, List, length, take, Option, None, Some, refl, sym, ap, subst, ◌∙◌, inl, inr}
+use Rattle.std.proofs.Common.{◌≡◌, ℕ, Bool, List, take, Option, None, Some, refl, sym, ap, subst, ◌∙◌, inl, inr}
 use Rattle.std.specs.Prelude.{IsSome, Result, Ok, Err, IfErr, OnOk}
 use Rattle.std.specs.Io.KnownBytes.{Appends}
 use Rattle.ob_base.specs.declared.stop.Fault.{Fault}
@@ -59,9 +59,9 @@ module _ {S : Type 0} (g : Ghosts S) where
   pub answered-less : {W : Type 0} (writer : Watched W) (had has : Option (List ℕ)) (old new : KeeperValue S) (m : Message) (ends : Bool) (text : ReplyText)
       → (old.book ≡ None → (new ≡ old) × Unopened (bookless m) ends (Ok text)) → (IsSome old.book → IsSome new.book)
       → IfHeld g old new (λ b. Answered g new b m ends (Ok text))
-      → length (text_bytes text) < 2 ^ 64 → AppendsFront had has (text_bytes text) → IsUnanswered g writer had has old new m ends Output
-  answered-less writer had has old new m ends text unopened kept answered short written x over =
-      let so = made old new m ends text unopened kept answered x over in (text_bytes text, so.0, so.1, written, so.2, short)
+      → AppendsFront had has (text_bytes text) → IsUnanswered g writer had has old new m ends Output
+  answered-less writer had has old new m ends text unopened kept answered written x over =
+      let so = made old new m ends text unopened kept answered x over in (text_bytes text, so.0, so.1, written, so.2)
 
   -- what a fault in place of an answer leaves
   left-by : (old new : KeeperValue S) (m : Message) (ends : Bool) (fault : Fault)
@@ -105,10 +105,10 @@ module _ {S : Type 0} (g : Ghosts S) where
   pub written-less : {A W : Type 0} (r : Result A Fault) (writer : Watched W) (had has : Option (List ℕ)) (old new : KeeperValue S) (m : Message) (ends : Bool) (text : ReplyText)
       → (old.book ≡ None → (new ≡ old) × Unopened (bookless m) ends (Ok text)) → (IsSome old.book → IsSome new.book)
       → IfHeld g old new (λ b. Answered g new b m ends (Ok text))
-      → length (text_bytes text) < 2 ^ 64 → IfErr r (λ _. AppendsFront had has (text_bytes text)) → IfErr r (λ f. (f ≡ Output) × HasJustFailed writer) → IfErr r (IsUnanswered g writer had has old new m ends)
-  written-less (Ok x) writer had has old new m ends text unopened kept answered short written failed = tt
-  written-less (Err f) writer had has old new m ends text unopened kept answered short written failed =
-      subst (IsUnanswered g writer had has old new m ends) (sym failed.0) (answered-less writer had has old new m ends text unopened kept answered short written)
+      → IfErr r (λ _. AppendsFront had has (text_bytes text)) → IfErr r (λ f. (f ≡ Output) × HasJustFailed writer) → IfErr r (IsUnanswered g writer had has old new m ends)
+  written-less (Ok x) writer had has old new m ends text unopened kept answered written failed = tt
+  written-less (Err f) writer had has old new m ends text unopened kept answered written failed =
+      subst (IsUnanswered g writer had has old new m ends) (sym failed.0) (answered-less writer had has old new m ends text unopened kept answered written)
 
   pub written-cause : {A W : Type 0} (r : Result A Fault) (writer : Watched W) (old : KeeperValue S) → IfErr r (λ f. (f ≡ Output) × HasJustFailed writer) → IfErr r (HasAnswerCause g writer old)
   written-cause (Ok x) writer old failed = tt

@@ -147,7 +147,6 @@ module _ {S : Type 0} (g : Ghosts S) where
             left = after;
             read = read;
             reply = so.0;
-            short = so.5;
             next = so.1;
             answers = subst (λ e. AnswersAt x m e so.0 so.1) last so.2;
             front = take so.3.count so.0;

@@ -1,5 +1,5 @@
 -- The run of a stream: its requests and how it ends, what is written for them, and what then stands.
-use Rattle.std.specs.Prelude.{◌≡◌, ◌⊎◌, ⊤, ℕ, ◌<◌, ◌≤◌, ◌+◌, ◌-◌, ◌^◌, List, [], ◌++◌, length, take, Option, None, IfSome}
+use Rattle.std.specs.Prelude.{◌≡◌, ◌⊎◌, ⊤, ℕ, ◌<◌, ◌≤◌, ◌+◌, ◌-◌, List, [], ◌++◌, length, take, Option, None, IfSome}
 use Rattle.std.specs.Io.KnownBytes.{Appends}
 use Rattle.ob_base.specs.declared.stop.Fault.{Fault}
 use Rattle.ob_base.specs.declared.stop.Fault.TheVariants.{OutOfMemory, Store, Reopen, Input, Output}
@@ -56,7 +56,6 @@ module _ {S : Type 0} (g : Ghosts S) where
     pub left : Option (List ℕ)
     pub read : ReadsKnown rest message left
     pub reply : List ℕ
-    pub short : length reply < 2 ^ 64
     pub next : Option ActState
     pub answers : AnswersAt x message (ends allowed message) reply next
     pub front : List ℕ

@@ -1,5 +1,5 @@
 -- One turn of a stream: a request is read and answered, or the stream ends.
-use Rattle.std.specs.Prelude.{◌≡◌, ⊤, ℕ, ◌<◌, ◌^◌, Bool, List, [], ◌++◌, length, Option, None, IfSome}
+use Rattle.std.specs.Prelude.{◌≡◌, ⊤, ℕ, Bool, List, [], ◌++◌, Option, None, IfSome}
 use Rattle.std.specs.Io.KnownBytes.{Appends, Keeps}
 use Rattle.ob_base.specs.declared.stop.Fault.{Fault}
 use Rattle.ob_base.specs.declared.stop.Fault.TheVariants.{OutOfMemory, Store, Reopen, Input, Output}
@@ -46,8 +46,7 @@ module _ {S : Type 0} (g : Ghosts S) where
   -- its reply could not be written whole, or it could not be answered
   abbrev pub IsUnanswered : {W : Type 0} → Watched W → Option (List ℕ) → Option (List ℕ) → KeeperValue S → KeeperValue S → Message → Bool → Fault → Type 0
   IsUnanswered writer had has old new m ends Output =
-      (x : Option ActState) → Over g old new x
-      → (reply : List ℕ) × (y : Option ActState) × AnswersAt x m ends reply y × AppendsFront had has reply × Stands g new y × (length reply < 2 ^ 64)
+      (x : Option ActState) → Over g old new x → (reply : List ℕ) × (y : Option ActState) × AnswersAt x m ends reply y × AppendsFront had has reply × Stands g new y
   IsUnanswered writer had has old new m ends fault =
       (x : Option ActState) → Over g old new x
       → (front : List ℕ) × IsWritten writer front unavailable_text × Appends had has front × LeftBy g new x m ends fault

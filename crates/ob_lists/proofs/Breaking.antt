@@ -115,7 +115,6 @@ module _ {S : Type 0} (g : Ghosts S) (new : KeeperValue S) where
             left = h.left;
             read = h.read;
             reply = h.reply;
-            short = h.short;
             answers = answers;
             front = h.front;
             less = h.less;
@@ -145,7 +144,6 @@ module _ {S : Type 0} (g : Ghosts S) (new : KeeperValue S) where
           left = h.left;
           read = h.read;
           reply = h.reply;
-          short = h.short;
           answers = (answers.0, law x h.message answers.0 answers.1, answers.2);
           front = h.front;
           less = h.less;

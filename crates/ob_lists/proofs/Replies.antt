@@ -1,10 +1,11 @@
 -- Where a reply ends in the bytes that follow one another, and which status it has, is seen from these alone.
-use Rattle.std.proofs.Common.{◌≡◌, ◌≢◌, ◌⊎◌, inl, inr, ℕ, ◌+◌, ◌-◌, ◌*◌, ◌<◌, ◌^◌, ◌++◌, Bool, true, false, List, [], ◌∷◌, length, refl, sym, ap, subst, ◌∙◌, arith, get_or, append_assoc}
-use Rattle.std.specs.Prelude.{codes, decimal, drop}
-use Rattle.std.specs.Char.{digit_value}
-use Rattle.std.specs.Str.Parse.{AllDigits}
+use Rattle.std.proofs.Common.{◌≡◌, ◌≢◌, ◌⊎◌, inl, inr, ℕ, zero, suc, ◌+◌, ◌-◌, ◌*◌, ◌/◌, ◌%◌, ◌<◌, ◌≤◌, ◌^◌, ◌++◌, if◌then◌else◌, nat_lt, Bool, true, false, List, [], ◌∷◌, length, refl, sym, ap, subst, ◌∙◌, arith, get_or, append_assoc}
+use Rattle.std.specs.Prelude.{⊤, ◌==◌, codes, decimal, drop}
+use Rattle.std.specs.Fmt.{digit_glyph, digits, digits_onto}
+use Rattle.std.specs.Str.Parse.{digits_value}
+use Rattle.std.proofs.lemmas.Bool.Decides.{nat_tests}
 use Rattle.std.proofs.Math.Seq.{drop-append_seam}
-use Rattle.std.proofs.lemmas.Fmt.{decimal_injective, decimal_is_IsNumeral}
+use Rattle.std.proofs.lemmas.Fmt.{length-decimal-le, decimal_is_IsNumeral, decimal_is_IsNumeral_wide}
 use Rattle.std.proofs.lemmas.List.{append_cancel_left}
 use Rattle.http.specs.StatusCode.{status_text}
 use Rattle.ob_replies.specs.Reply.{allow, connection, content_length, content_type, crlf, reply_text, status_line, type_name}
@@ -65,31 +66,82 @@ type_then types.Json types.PlainText (x ∷ b) (y ∷ d) v w e = let at : 97 ≡
 type_then types.PlainText types.Json (x ∷ b) (y ∷ d) v w e = let at : 116 ≡ 97 = ap (λ x. get_or x 14 0) e in absurd (omega (arith, at))
 
 -- ---- the body's length
-no_digit : (c : ℕ) → 13 ≡ c → digit_value c < 10 → ⊥
-no_digit c is small = let high : 36 < 10 = subst (λ n. digit_value n < 10) (sym is) small in absurd (omega (arith, high))
-
 first_same : (x y : ℕ) (xs ys : List ℕ) → x ∷ xs ≡ y ∷ ys → x ≡ y
 first_same x y xs ys e = ap (λ l. get_or l 0 0) e
 
 later_same : (x y : ℕ) (xs ys : List ℕ) → x ∷ xs ≡ y ∷ ys → xs ≡ ys
 later_same x y xs ys e = ap (λ l. drop 1 l) e
 
-digits_then : (ds es v w : List ℕ) → AllDigits 10 ds → AllDigits 10 es → ds ++ 13 ∷ v ≡ es ++ 13 ∷ w → (ds ≡ es) × (v ≡ w)
+-- none of these bytes is that of a line's end
+abbrev Visible : List ℕ → Type 0
+Visible [] = ⊤
+Visible (c ∷ cs) = (48 ≤ c) × Visible cs
+
+glyph_visible : (d : ℕ) → 48 ≤ digit_glyph false d
+glyph_visible d = elim (nat_lt d 10) as (λ t. 48 ≤ (if t then 48 + d else (if false then 55 + d else 87 + d))) [
+  | true ↦ omega (arith)
+  | false ↦ omega (arith)
+]
+
+onto_visible : (k n : ℕ) (acc : List ℕ) → Visible acc → Visible (digits_onto k 10 false n acc)
+onto_visible zero n acc visible = visible
+onto_visible (suc k) n acc visible = elim (n / 10 == 0) as (λ t. Visible (if t then digit_glyph false (n % 10) ∷ acc else digits_onto k 10 false (n / 10) (digit_glyph false (n % 10) ∷ acc))) [
+  | true ↦ (glyph_visible (n % 10), visible)
+  | false ↦ onto_visible k (n / 10) (digit_glyph false (n % 10) ∷ acc) (glyph_visible (n % 10), visible)
+]
+
+decimal_visible : (n : ℕ) → Visible (decimal n)
+unfolding digits
+decimal_visible n = onto_visible 64 n [] tt
+
+-- the powers of ten
+tens : ℕ → ℕ
+tens zero = 1
+tens (suc k) = 10 * tens k
+
+tens_some : (k : ℕ) → 1 ≤ tens k
+unfolding tens
+tens_some zero = omega (arith)
+tens_some (suc k) = omega (arith, tens_some k)
+
+-- a number that is too long is written by as many digits as there are
+onto_long : (k n : ℕ) (acc : List ℕ) → tens k ≤ n → length (digits_onto k 10 false n acc) ≡ k + length acc
+unfolding tens
+onto_long zero n acc long = omega (arith)
+onto_long (suc k) n acc long =
+    let less : tens k ≤ n / 10 = omega (arith, long) in
+    elim (n / 10 == 0) as (λ t. (n / 10 == 0) ≡ t
+        → length (if t then digit_glyph false (n % 10) ∷ acc else digits_onto k 10 false (n / 10) (digit_glyph false (n % 10) ∷ acc)) ≡ suc k + length acc) [
+      | true ↦ λ none. absurd (grind (arith, nat_tests, none, less, tens_some k))
+      | false ↦ λ some. omega (arith, onto_long k (n / 10) (digit_glyph false (n % 10) ∷ acc) less)
+    ] refl
+
+decimal_long : (n : ℕ) → 10 ^ 64 ≤ n → length (decimal n) ≡ 64
+unfolding digits tens
+decimal_long n long = let so : length (digits_onto 64 10 false n []) ≡ 64 + 0 = onto_long 64 n [] long in omega (arith, so)
+
+decimal_one : (n k : ℕ) → n < 2 ^ 64 → decimal n ≡ decimal k → n ≡ k
+decimal_one n k small e = elim (nat_lt k (10 ^ 64)) as (λ t. nat_lt k (10 ^ 64) ≡ t → n ≡ k) [
+  | true ↦ λ less. sym (decimal_is_IsNumeral n small).1 ∙ ap (digits_value 10) e ∙ (decimal_is_IsNumeral_wide k (grind (arith, nat_tests, less))).1
+  | false ↦ λ long. absurd (omega (arith, ap length e, decimal_long k (grind (arith, nat_tests, long)), length-decimal-le 20 n (omega (arith)) (omega (arith, small)) small))
+] refl
+
+digits_then : (ds es v w : List ℕ) → Visible ds → Visible es → ds ++ 13 ∷ v ≡ es ++ 13 ∷ w → (ds ≡ es) × (v ≡ w)
 digits_then [] [] v w all digits e = (refl, later_same 13 13 v w e)
-digits_then [] (y ∷ es) v w all digits e = absurd (no_digit y (first_same 13 y v (es ++ 13 ∷ w) e) digits.0)
-digits_then (x ∷ ds) [] v w all digits e = absurd (no_digit x (sym (first_same x 13 (ds ++ 13 ∷ v) w e)) all.0)
+digits_then [] (y ∷ es) v w all digits e = absurd (omega (arith, first_same 13 y v (es ++ 13 ∷ w) e, digits.0))
+digits_then (x ∷ ds) [] v w all digits e = absurd (omega (arith, first_same x 13 (ds ++ 13 ∷ v) w e, all.0))
 digits_then (x ∷ ds) (y ∷ es) v w all digits e =
     let so = digits_then ds es v w all.1 digits.1 (later_same x y (ds ++ 13 ∷ v) (es ++ 13 ∷ w) e) in
     (ap (λ z. z ∷ ds) (first_same x y (ds ++ 13 ∷ v) (es ++ 13 ∷ w) e) ∙ ap (λ l. y ∷ l) so.0, so.1)
 
-length_then : (b d v w : List ℕ) → length b < 2 ^ 64 → length d < 2 ^ 64 → content_length b ++ v ≡ content_length d ++ w → (length b ≡ length d) × (v ≡ w)
+length_then : (b d v w : List ℕ) → length b < 2 ^ 64 → content_length b ++ v ≡ content_length d ++ w → (length b ≡ length d) × (v ≡ w)
 unfolding content_length
-length_then b d v w small little e =
+length_then b d v w small e =
     let flat : (l u : List ℕ) → codes "Content-Length: " ++ (decimal (length l) ++ crlf) ++ u ≡ codes "Content-Length: " ++ (decimal (length l) ++ 13 ∷ 10 ∷ u) =
     λ l u. append_assoc (codes "Content-Length: ") (decimal (length l) ++ crlf) u ∙ ap (λ z. codes "Content-Length: " ++ z) (append_assoc (decimal (length l)) crlf u) in
     let bare = append_cancel_left (codes "Content-Length: ") (decimal (length b) ++ 13 ∷ 10 ∷ v) (decimal (length d) ++ 13 ∷ 10 ∷ w) (sym (flat b v) ∙ e ∙ flat d w) in
-    let so = digits_then (decimal (length b)) (decimal (length d)) (10 ∷ v) (10 ∷ w) (decimal_is_IsNumeral (length b) small).0.1 (decimal_is_IsNumeral (length d) little).0.1 bare in
-    (decimal_injective (length b) (length d) small little so.0, later_same 10 10 v w so.1)
+    let so = digits_then (decimal (length b)) (decimal (length d)) (10 ∷ v) (10 ∷ w) (decimal_visible (length b)) (decimal_visible (length d)) bare in
+    (decimal_one (length b) (length d) small so.0, later_same 10 10 v w so.1)
 
 -- ---- the method that is taken
 -- a status that names a method has a code of its own
@@ -145,9 +197,9 @@ code_of_reply s m b closes t =
 
 -- replies that are the front of the same bytes have the same code, and end at the same place
 pub one_reply :
-    (s p : Status) (m n : MediaType) (b d : List ℕ) (closes ends : Bool) (t u : List ℕ) → length b < 2 ^ 64 → length d < 2 ^ 64
+    (s p : Status) (m n : MediaType) (b d : List ℕ) (closes ends : Bool) (t u : List ℕ) → length b < 2 ^ 64
     → reply_text s m b closes ++ t ≡ reply_text p n d ends ++ u → (status_code s ≡ status_code p) × (t ≡ u)
-one_reply s p m n b d closes ends t u small little e =
+one_reply s p m n b d closes ends t u small e =
     let pieces = in_pieces (status_line s) (content_type m b) (content_length b) (allow s) (connection closes) crlf b t in
     let others = in_pieces (status_line p) (content_type n d) (content_length d) (allow p) (connection ends) crlf d u in
     let same : status_code s ≡ status_code p = sym (code_of_reply s m b closes t) ∙ ap code_at e ∙ code_of_reply p n d ends u in
@@ -156,6 +208,6 @@ one_reply s p m n b d closes ends t u small little e =
     let lines : status_line p ++ after ≡ status_line p ++ behind = subst (λ l. l ++ after ≡ status_line p ++ behind) (same_line s p same) (sym pieces ∙ e ∙ others) in
     let typed = append_cancel_left (status_line p) after behind lines in
     let sized = type_then m n b d (allow s ++ (connection closes ++ (crlf ++ (b ++ t)))) (allow p ++ (connection ends ++ (crlf ++ (d ++ u)))) typed in
-    let long = length_then b d (allow s ++ (connection closes ++ (crlf ++ (b ++ t)))) (allow p ++ (connection ends ++ (crlf ++ (d ++ u)))) small little sized in
+    let long = length_then b d (allow s ++ (connection closes ++ (crlf ++ (b ++ t)))) (allow p ++ (connection ends ++ (crlf ++ (d ++ u)))) small sized in
     let allowed = allow_then s p (connection closes ++ (crlf ++ (b ++ t))) (connection ends ++ (crlf ++ (d ++ u))) same long.1 in
     (same, body_then b d t u long.0 (connection_then closes ends (b ++ t) (d ++ u) allowed))

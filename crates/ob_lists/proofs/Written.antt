@@ -101,9 +101,6 @@ body_short front t text said closes is short =
     let all = ap length is in
     omega (arith, all, short, length-append front (answer_text said closes ++ t), length-append (answer_text said closes) t, length-append head said.body)
 
-no_body : (status : Status) → length (empty status).body < 2 ^ 64
-no_body status = omega (arith)
-
 both_none : {X : Type 0} (xs ys : List X) → xs ++ ys ≡ [] → xs ≡ []
 both_none [] ys e = refl
 both_none (x ∷ xs) ys e = absurd (omega (arith, ap length e))
@@ -147,9 +144,9 @@ interim_cut true part (m ∷ ms) a front (said, closes, more, is, posts) =
 
 module _ (ms : List Message) (a : Referenced) (said own : Answer) (closes ending : Bool) (more z : List ℕ) where
   -- a reply with no body, or the front of it, acknowledges only what it says
-  one_alone : length said.body < 2 ^ 64 → length own.body < 2 ^ 64 → (answer_text said closes ++ more) ++ z ≡ answer_text own ending → Acknowledges ms more a → ⊥
-  one_alone small little e acks =
-      let so = one_reply said.status own.status said.media own.media said.body own.body closes ending (more ++ z) [] small little
+  one_alone : length said.body < 2 ^ 64 → (answer_text said closes ++ more) ++ z ≡ answer_text own ending → Acknowledges ms more a → ⊥
+  one_alone small e acks =
+      let so = one_reply said.status own.status said.media own.media said.body own.body closes ending (more ++ z) [] small
       (sym (append_assoc (answer_text said closes) more z) ∙ e ∙ sym (append-nil (answer_text own ending))) in
       none_written ms a (subst (λ l. Acknowledges ms l a) (both_none more z so.1) acks)
 
@@ -164,7 +161,7 @@ empty_alone : (status : Status) → status_code status ≢ 200 → (m : Message)
 empty_alone status other m ms a said closes part more z is short e (inl posts) =
     other (sym (same_code ms a said (empty status) closes true more z (ap (λ l. l ++ z) (sym is) ∙ e)) ∙ ap status_code posts.1)
 empty_alone status other m ms a said closes part more z is short e (inr acks) =
-    one_alone ms a said (empty status) closes true more z (body_short [] more part said closes is short) (no_body status) (ap (λ l. l ++ z) (sym is) ∙ e) acks
+    one_alone ms a said (empty status) closes true more z (body_short [] more part said closes is short) (ap (λ l. l ++ z) (sym is) ∙ e) acks
 
 refused_alone : (refusal : HeadRefusal) (ms : List Message) (a : Referenced) (part z : List ℕ) → length part < 2 ^ 64 → part ++ z ≡ refusal_text refusal
     → Acknowledges ms part a → ⊥
@@ -226,7 +223,7 @@ module _ (one : OneRequest) (law : RequestsAreAnsweredOneThing) where
         subst (λ (k : Message). text ++ part ≡ interim_text k.waits ++ (answer_text said closes ++ after)) (sym same.0) seen in
     let bare = append_cancel_left (interim_text m.waits) (answer_text said closes ++ after) (answer_text own last ++ (more ++ part)) (sym theirs ∙ ours) in
     let cut = one_reply said.status own.status said.media own.media said.body own.body closes last after (more ++ part)
-        (body_short (interim_text m.waits) after (text ++ part) said closes theirs short) (body_short (interim_text m.waits) (more ++ part) (text ++ part) own last ours short) bare in
+        (body_short (interim_text m.waits) after (text ++ part) said closes theirs short) bare in
     let less : length (more ++ part) < 2 ^ 64 =
         omega (arith, short, ap length ours, length-append (interim_text m.waits) (answer_text own last ++ (more ++ part)), length-append (answer_text own last) (more ++ part)) in
     elim posts [
@@ -274,8 +271,7 @@ module _ (one : OneRequest) (law : RequestsAreAnsweredOneThing) where
           elim posts [
             | inl (post, ok) ↦ accepted b x it.message a own (subst (λ k. Posts k a) (sym same) post) gives
                 (sym (same_code ms a said own closes (ends allowed it.message) more lacks.0 whole) ∙ ap status_code ok)
-            | inr acks ↦ absurd (one_alone ms a said own closes (ends allowed it.message) more lacks.0 (body_short [] more it.front said closes is fits)
-                (body_short [] [] it.reply own (ends allowed it.message) (made ∙ sym (append-nil (answer_text own (ends allowed it.message)))) it.short) whole acks)
+            | inr acks ↦ absurd (one_alone ms a said own closes (ends allowed it.message) more lacks.0 (body_short [] more it.front said closes is fits) whole acks)
           ]
 
       by_left : (left : Option (List ℕ)) → ReadsKnown (Some rest) it.message left → Holds x a

@@ -1,5 +1,5 @@
 -- Which book a served stream makes of one.
-use Rattle.std.specs.Prelude.{◌≡◌, ◌⊎◌, ⊤, ℕ, ◌+◌, ◌-◌, ◌<◌, ◌^◌, Bool, List, [], ◌∷◌, ◌++◌, length, Option, Some, None, IfSome, Result, Ok, Err}
+use Rattle.std.specs.Prelude.{◌≡◌, ◌⊎◌, ⊤, ℕ, ◌+◌, ◌-◌, ◌<◌, Bool, List, [], ◌∷◌, ◌++◌, length, Option, Some, None, IfSome, Result, Ok, Err}
 use Rattle.std.specs.Io.KnownBytes.{Appends}
 use Rattle.ob_base.specs.declared.stop.Fault.{Fault}
 use Rattle.ob_base.specs.declared.stop.Fault.TheVariants.{OutOfMemory, Store, Reopen, Input, Output}
@@ -80,7 +80,6 @@ pub record IsUnwritten (allowed : ℕ) (rest : Option (List ℕ)) (part : List �
   pub left : Option (List ℕ)
   pub read : ReadsKnown rest message left
   pub reply : List ℕ
-  pub short : length reply < 2 ^ 64
   pub answers : AnswersAt (Some b) message (ends allowed message) reply (Some x)
   pub front : List ℕ
   pub less : IsFront front reply

@@ -23,14 +23,12 @@ pub enum ReplyText {
 }
 
 impl ReplyText {
-    ghost use Rattle.std.specs.Prelude.{◌≡◌, ◌<◌, ◌^◌, length};
+    ghost use Rattle.std.specs.Prelude.{◌≡◌};
     ghost use Rattle.ob_routes.specs.Answering.{text_bytes};
 
     /// The bytes.
     pub fn bytes(&self) -> &[u8]
-        ensures text { result.now ≡ text_bytes self.now }
-        // a slice has fewer bytes than 2^64
-        ensures short { length result.now < 2 ^ 64 }
+        ensures { result.now ≡ text_bytes self.now }
     {
         match self {
             ReplyText::Constant(text) => text,

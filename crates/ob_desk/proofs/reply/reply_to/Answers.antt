@@ -12,14 +12,14 @@ returns-in-Ok-clause-answered g c =
     let called = c.in-Ok.ensures in
     let still = still-some g.S.Store c.args.keeper.now c.answer.new.keeper (kept-by g.S.Store c.args.keeper.now c.answer.new.keeper (Ok c.in-Ok.text) _ called.clean called.unopened called.dropped) in
     written-answered g.S.Store c.write_text.result _ _ c.args.keeper.now c.answer.new.keeper (message_of c.args.request.now) c.args.ends c.in-Ok.text
-    called.unopened still called.answered (rw c.bytes.ensures.text at c.write_text.ensures.whole)
+    called.unopened still called.answered (rw c.bytes.ensures at c.write_text.ensures.whole)
 
 pub returns-in-Ok-clause-unanswered : goal.returns-in-Ok-clause-unanswered
 returns-in-Ok-clause-unanswered g c =
     let called = c.in-Ok.ensures in
     let still = still-some g.S.Store c.args.keeper.now c.answer.new.keeper (kept-by g.S.Store c.args.keeper.now c.answer.new.keeper (Ok c.in-Ok.text) _ called.clean called.unopened called.dropped) in
     written-less g.S.Store c.write_text.result c.write_text.new.writer _ _ c.args.keeper.now c.answer.new.keeper (message_of c.args.request.now) c.args.ends c.in-Ok.text
-    called.unopened still called.answered (rw c.bytes.ensures.text at c.bytes.ensures.short) (rw c.bytes.ensures.text at c.write_text.ensures.front) c.write_text.ensures.fault
+    called.unopened still called.answered (rw c.bytes.ensures at c.write_text.ensures.front) c.write_text.ensures.fault
 
 pub returns-in-Ok-clause-cause : goal.returns-in-Ok-clause-cause
 returns-in-Ok-clause-cause g c = written-cause g.S.Store c.write_text.result c.write_text.new.writer c.args.keeper.now c.write_text.ensures.fault
