@@ -8,4 +8,3 @@ pub mod RunLemmas
 pub mod StandLemmas
 pub mod TurnLemmas
 pub mod WriteLemmas
-pub mod FaultLemmas

@@ -30,4 +30,3 @@ pub mod GoingOn
 pub mod OldCrashing
 pub mod KeeperLaws
 pub mod Restarting
-pub mod Faults
