@@ -189,8 +189,8 @@ reads_all allowed bytes (m ∷ ms) ending (mid, reads, later) = by_end (ends all
   where
     by_end : (closes : Bool) → MatchBool closes ((ms ≡ []) × (ending ≡ None)) (Requests (allowed - 1) mid ms ending)
         → (Requests (allowed - 1) mid ms ending → (rest : List ℕ) × Reads mid ms rest) → (rest : List ℕ) × Reads bytes (m ∷ ms) rest
-    by_end true last go = (mid, mid, reads, subst (λ l. Reads mid l mid) (sym last.0) refl)
-    by_end false more go = let so = go more in (so.0, mid, reads, so.1)
+    by_end true last go = (mid, (mid, reads, subst (λ l. Reads mid l mid) (sym last.0) refl))
+    by_end false more go = let so = go more in (so.0, (mid, reads, so.1))
 
 -- ---- an acceptance of an answered request
 module _ (one : OneRequest) (law : RequestsAreAnsweredOneThing) where
