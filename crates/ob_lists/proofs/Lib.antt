@@ -1,7 +1,9 @@
 pub mod Standings
 pub mod Importing
+pub mod Replies
 pub mod Restarting
 pub mod Telling
+pub mod Written
 pub mod Breaking
 pub mod Serving
 pub mod Beginning

@@ -1,5 +1,5 @@
 -- What served streams make of a book that the store may have.
-use Rattle.std.proofs.Common.{◌≡◌, inl, inr, ℕ, ◌-◌, List, [], ◌∷◌, ◌++◌, length, Option, None, Some, Result, Ok, Err, IfErr, IsSome, refl, subst}
+use Rattle.std.proofs.Common.{◌≡◌, inl, inr, ℕ, ◌-◌, List, [], ◌∷◌, ◌++◌, length, Option, None, Some, Result, Ok, Err, IfErr, IsSome, refl, sym, subst}
 use Rattle.std.specs.Prelude.{⊤, ◌↔◌, IfOk}
 use Rattle.std.proofs.lemmas.List.Sums.{fold-append}
 use Rattle.ob_base.specs.declared.stop.Fault.{Fault}
@@ -19,7 +19,7 @@ use Rattle.ob_desk.specs.declared.listen.Unserved.TheVariants as unserved
 use Rattle.ob_desk.specs.declared.stream.Served.{Served}
 use Rattle.ob_lists.specs.Streaming.{Stream}
 use Rattle.ob_lists.specs.Standing.{MayBe, Stands, Told, served, streamed, told_by_stream}
-use Rattle.ob_lists.proofs.Breaking.{breaks_left}
+use Rattle.ob_lists.proofs.Breaking.{bookless_breaks, breaks_stand}
 use Rattle.ob_lists.proofs.Standings.{by_book, stands_as, tie_none, unmoved}
 
 -- requests that need no book are answered over one as without it
@@ -30,12 +30,11 @@ bookless_replies law allowed (m ∷ ms) text y b (reply, more, None, answers, wh
     (reply, more, Some b, (answers.0, law b m answers.0 answers.1, answers.2), whole, bookless_replies law (allowed - 1) ms more y b rest)
 bookless_replies law allowed (m ∷ ms) text y b (reply, more, Some c, answers, whole, rest) = absurd answers
 
-lost_by_stream : (fault : Fault) (P : Type 0) → (P ↔ ◌≡◌ {A = Result Served Fault} (Err fault) (Err Store)) → ◌≡◌ {A = Option Fault} (Some fault) (Some Store) → P
-lost_by_stream OutOfMemory P lost is = absurd cc
-lost_by_stream Store P lost is = lost.1 refl
-lost_by_stream Reopen P lost is = absurd cc
-lost_by_stream Input P lost is = absurd cc
-lost_by_stream Output P lost is = absurd cc
+-- and leave none
+none_after : (allowed : ℕ) (ms : List Message) (text : List ℕ) (y : Option ActState) → Replies allowed None ms text y → y ≡ None
+none_after allowed [] text y (none, same) = sym same
+none_after allowed (m ∷ ms) text y (reply, more, None, answers, whole, rest) = none_after (allowed - 1) ms more y rest
+none_after allowed (m ∷ ms) text y (reply, more, Some c, answers, whole, rest) = absurd answers
 
 lost_by_desk : (r : Result ⊤ Unserved) (P : Type 0) → (P ↔ (r ≡ Err unserved.Store)) → last_fault r ≡ Some Store → P
 lost_by_desk (Ok done) P lost is = absurd cc
@@ -119,9 +118,9 @@ module _ {S : Type 0} (g : Ghosts S) (old new : KeeperValue S) (b : ActState) (b
     ]
 
     until_a_fault : {R W : Type 0} (reader : Watched R) (writer : Watched W) (left : Option (List ℕ)) (fault : Fault)
-        → (IsSome old.book → (new.book ≡ None) ↔ ◌≡◌ {A = Result Served Fault} (Err fault) (Err Store)) → Fails g bytes left had has reader writer old new fault
+        → Fails g bytes left had has reader writer old new fault
         → Stands g (MayBe b before) old → Stands g (MayBe b (told_by_stream bytes had has (Err fault) ++ before)) new
-    until_a_fault reader writer left fault dropped run stands = elim (by_book g old new (MayBe b before) old.book refl stands) [
+    until_a_fault reader writer left fault run stands = elim (by_book g old new (MayBe b before) old.book refl stands) [
       | inl none ↦
           let so = run.answered None none in
           stands_as g new (MayBe b before) (MayBe b (told_by_stream bytes had has (Err fault) ++ before)) (λ x is. (
@@ -134,33 +133,32 @@ module _ {S : Type 0} (g : Ghosts S) (old new : KeeperValue S) (b : ActState) (b
               book = x;
               answered = bookless_replies law 1000 run.requests so.0 so.2 x so.3;
               written = so.4;
-              ends = (run.rest, run.read, [], refl);
+              ends = (run.rest, run.read, run.few, bookless_breaks g new law reader writer (1000 - length run.requests) run.rest left so.1 x fault
+                  (subst (λ y. Breaks g reader writer (1000 - length run.requests) run.rest left so.1 new y fault) (none_after 1000 run.requests so.0 so.2 so.3) so.5));
             },
           )) (unmoved g old new (MayBe b before) (unopened none) stands)
       | inr it ↦
           let so = run.answered (Some it.0) (clean, it.2, it.3) in
           let stream : Stream = record { bytes = bytes; had = had; has = has; ended = Err fault } in
-          left_stands (streamed stream) (acts it.0 so.6.0) (λ commands. (
+          let c : ActState = acts it.0 so.6.0 in
+          breaks_stand g new c (MayBe b (streamed stream ∷ before)) reader writer (1000 - length run.requests) run.rest left so.1 fault (λ x broke. (
             it.0,
             it.1,
             record {
               requests = run.requests;
               text = so.0;
               part = so.1;
-              book = acts it.0 so.6.0;
+              book = c;
               answered = subst (λ y. Replies 1000 (Some it.0) run.requests so.0 y) so.6.1 so.3;
               written = so.4;
-              ends = (run.rest, run.read, commands, refl);
+              ends = (run.rest, run.read, run.few, broke);
             },
-          )) (Some fault)
-          (breaks_left g new (acts it.0 so.6.0) reader writer (1000 - length run.requests) run.rest left so.1 fault
-          (subst (λ y. Breaks g reader writer (1000 - length run.requests) run.rest left so.1 new y fault) so.6.1 so.5))
-          (λ is. lost_by_stream fault (new.book ≡ None) (dropped it.3) is)
+          )) (subst (λ y. Breaks g reader writer (1000 - length run.requests) run.rest left so.1 new y fault) so.6.1 so.5)
     ]
 
     pub stream_stands : {R W : Type 0} (reader : Watched R) (writer : Watched W) (left : Option (List ℕ)) (r : Result Served Fault)
-        → (IsSome old.book → (new.book ≡ None) ↔ (r ≡ Err Store)) → IfOk r (λ done. Serves g bytes had has old new done.requests)
+        → IfOk r (λ done. Serves g bytes had has old new done.requests)
         → IfErr r (Fails g bytes left had has reader writer old new) → Stands g (MayBe b before) old
         → Stands g (MayBe b (told_by_stream bytes had has r ++ before)) new
-    stream_stands reader writer left (Ok done) dropped serves fails stands = to_its_end done serves stands
-    stream_stands reader writer left (Err fault) dropped serves fails stands = until_a_fault reader writer left fault dropped fails stands
+    stream_stands reader writer left (Ok done) serves fails stands = to_its_end done serves stands
+    stream_stands reader writer left (Err fault) serves fails stands = until_a_fault reader writer left fault fails stands

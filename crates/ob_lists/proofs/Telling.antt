@@ -11,21 +11,26 @@ use Rattle.ob_base.specs.declared.stop.Fault.{Fault}
 use Rattle.ob_base.specs.declared.stop.Fault.TheVariants.{OutOfMemory, Store, Reopen, Input, Output}
 use Rattle.ob_base.specs.declared.stop.Refusal.{Refusal}
 use Rattle.ob_base.specs.declared.stop.Refusal.TheVariants.{RefConflict}
-use Rattle.ob_csv.specs.Rows.{Fields}
+use Rattle.ob_csv.specs.Rows.{Fields, rows_of}
 use Rattle.ob_command.specs.Commands.{body_text}
 use Rattle.ob_state.specs.Refusals.{refusal}
 use Rattle.ob_book.specs.Acts.{ActState, Referenced, Reply, act, acts, answer, answer_again, answer_new, answer_under, is_accepted, is_repeat, is_same, reply_of, take_on}
 use Rattle.ob_import.specs.Imports.{AreAnswered, Begins, Import, ImportsBody, Say, Taken, after_header}
 use Rattle.ob_import.specs.Reports.{AreRows, import_as}
+use Rattle.ob_requests.specs.Continue.{interim_text}
 use Rattle.ob_requests.specs.Message.{Message, path_of}
+use Rattle.ob_requests.specs.declared.framing.Method.{Method}
 use Rattle.ob_requests.specs.declared.framing.Method.TheVariants as methods
+use Rattle.ob_routes.specs.Answering.{body_rows}
 use Rattle.ob_routes.specs.Answers.{Answers, RequestsAreAnsweredOneThing, RouteAnswers, outcome}
 use Rattle.ob_routes.specs.Routes.{route_of}
+use Rattle.ob_routes.specs.declared.routes.Route.{Route}
+use Rattle.ob_routes.specs.declared.routes.Route.TheVariants as routes
 use Rattle.ob_desk.specs.Exchanges.{Replies}
 use Rattle.ob_desk.specs.declared.stream.Served.{Served}
 use Rattle.ob_desk.proofs.CrashLemmas.{replies-act}
 use Rattle.ob_lists.specs.Importing.{BreaksOff, Ended, Makes, body_of, counted}
-use Rattle.ob_lists.specs.Streaming.{Accepts, AnswersStream, EndsStream, IsAnswered, Posts, Stream}
+use Rattle.ob_lists.specs.Streaming.{Accepts, AnswersStream, BreaksStream, EndsStream, IsAnswered, IsUnwritten, LeavesLost, LeavesShort, LeavesUnanswered, Posts, Stream}
 use Rattle.ob_lists.specs.Standing.{MayBe, Told, acknowledged, doubted, imported, served, streamed}
 use Rattle.ob_lists.specs.Going.{Holds, HoldsRow, HoldsRows, RowsLaw, StreamsLaw, ToldLaw}
 
@@ -42,7 +47,7 @@ stays_in : {X : Type 0} (xs ys : List X) (x : X) → Contains xs x → Contains 
 stays_in xs ys x has = (has.0, omega (arith, has.1, length-append xs ys), get_or_front xs ys has.0 x has.1 ∙ has.2)
 
 -- what a book holds it holds after any command
-holds_on : (b : ActState) (c a : Referenced) → Holds b a → Holds (act b c) a
+pub holds_on : (b : ActState) (c a : Referenced) → Holds b a → Holds (act b c) a
 holds_on b c a has = elim (is_accepted b c) as (λ t. Holds (if t then take_on b c else b) a) [
   | true ↦ (has.0, stays_in b.accepted (c ∷ []) has.0 has.1, has.2, has.3)
   | false ↦ has
@@ -82,7 +87,7 @@ holds_again b a place reply found = elim (is_repeat b (place + 1) a.command) as 
       | false ↦ λ again answered. absurd cc
     ] refl
 
-holds_answered : (b : ActState) (a : Referenced) → IsAnswered b a → Holds (act b a) a
+pub holds_answered : (b : ActState) (a : Referenced) → IsAnswered b a → Holds (act b a) a
 holds_answered b a (reply, answered) = elim (position (λ c. bytes_eq c.reference a.reference) b.accepted) as (λ o.
     position (λ c. bytes_eq c.reference a.reference) b.accepted ≡ o → answer_under b a (option_map (λ place. place + 1) o) ≡ Ok reply
     → Holds (if is_none (option_map (λ place. place + 1) o) && is_none (refusal b.book a.command) then take_on b a else b) a) [
@@ -92,7 +97,7 @@ holds_answered b a (reply, answered) = elim (position (λ c. bytes_eq c.referenc
 
 -- ---- the commands of rows
 -- what a book holds it holds after any commands
-holds_after : (b : ActState) (list : List Referenced) (a : Referenced) → Holds b a → Holds (acts b list) a
+pub holds_after : (b : ActState) (list : List Referenced) (a : Referenced) → Holds b a → Holds (acts b list) a
 holds_after b [] a has = has
 holds_after b (c ∷ list) a has = holds_after (act b c) list a (holds_on b c a has)
 
@@ -176,10 +181,58 @@ pub replies_act : (allowed : ℕ) (b c : ActState) (ms : List Message) (text : L
 replies_act allowed b c ms text replies =
     let so = replies-act allowed (Some b) (Some c) ms text replies in (so.0, some_same c (acts b so.0) so.1)
 
+-- what a request leaves that a fault kept from its answer
+short_act : (b : ActState) (method : Method) (route : Option Route) (body : List ℕ) (x : ActState) → LeavesShort b method route body x
+    → (commands : List Referenced) × (x ≡ acts b commands)
+short_act b method None body x h = absurd h
+short_act b methods.Get (Some route) body x same = ([], same)
+short_act b methods.Post (Some routes.Commands) body x (inl same) = ([], same)
+short_act b methods.Post (Some routes.Commands) body x (inr (a, says, is)) = (a ∷ [], is)
+short_act b methods.Post (Some routes.Import) body x (inl (added, again, broke)) = breaks_act b (body_rows body) OutOfMemory added again x broke
+short_act b methods.Post (Some routes.Import) body x (inr (i, imports, is)) =
+    let so = imports_act b (after_header (rows_of body)) i imports in (so.0, is ∙ so.1)
+short_act b methods.Post (Some routes.Plan) body x same = ([], same)
+short_act b methods.Post (Some (routes.Command number)) body x h = absurd h
+short_act b methods.Post (Some (routes.View view)) body x h = absurd h
+
+lost_act : (b : ActState) (method : Method) (route : Option Route) (body : List ℕ) (x : ActState) → LeavesLost b method route body x
+    → (commands : List Referenced) × (x ≡ acts b commands)
+lost_act b method None body x h = absurd h
+lost_act b methods.Get (Some route) body x same = ([], same)
+lost_act b methods.Post (Some routes.Commands) body x (a, says, inl same) = ([], same)
+lost_act b methods.Post (Some routes.Commands) body x (a, says, inr is) = (a ∷ [], is)
+lost_act b methods.Post (Some routes.Import) body x (added, again, broke) = breaks_act b (body_rows body) Store added again x broke
+lost_act b methods.Post (Some routes.Plan) body x h = absurd h
+lost_act b methods.Post (Some (routes.Command number)) body x h = absurd h
+lost_act b methods.Post (Some (routes.View view)) body x h = absurd h
+
+unanswered_act : (b : ActState) (m : Message) (fault : Fault) (x : ActState) → LeavesUnanswered b m fault x → (commands : List Referenced) × (x ≡ acts b commands)
+unanswered_act b m OutOfMemory x h = short_act b m.method (route_of (path_of m.target)) m.body x h
+unanswered_act b m Store x h = lost_act b m.method (route_of (path_of m.target)) m.body x h
+unanswered_act b m Reopen x h = ([], h.1)
+unanswered_act b m Input x h = absurd h
+unanswered_act b m Output x h = absurd h
+
+unwritten_act : (allowed : ℕ) (rest : Option (List ℕ)) (part : List ℕ) (b x : ActState) → IsUnwritten allowed rest part b x
+    → (commands : List Referenced) × (x ≡ acts b commands)
+unwritten_act allowed rest part b x it =
+    replies_act allowed b x (it.message ∷ []) (interim_text it.message.waits ++ (it.reply ++ [])) (it.reply, [], Some x, it.answers, refl, (refl, refl))
+
+pub broken_act : (allowed : ℕ) (rest : Option (List ℕ)) (part : List ℕ) (b : ActState) (fault : Fault) (x : ActState)
+    → BreaksStream allowed rest part b fault x → (commands : List Referenced) × (x ≡ acts b commands)
+broken_act allowed rest part b OutOfMemory x (inl unread) = ([], unread.1)
+broken_act allowed rest part b OutOfMemory x (inr it) = unanswered_act b it.message OutOfMemory x it.leaves
+broken_act allowed rest part b Store x it = unanswered_act b it.message Store x it.leaves
+broken_act allowed rest part b Reopen x it = unanswered_act b it.message Reopen x it.leaves
+broken_act allowed rest part b Input x unread = ([], unread.1)
+broken_act allowed rest part b Output x (inl interim) = ([], interim.1)
+broken_act allowed rest part b Output x (inr (inl (refusal, refused, front, same))) = ([], same)
+broken_act allowed rest part b Output x (inr (inr it)) = unwritten_act allowed rest part b x it
+
 ends_act : (bytes : Option (List ℕ)) (requests : List Message) (part : List ℕ) (b x : ActState) (ended : Result Served Fault)
     → EndsStream bytes requests part b ended x → (commands : List Referenced) × (x ≡ acts b commands)
 ends_act bytes requests part b x (Ok done) ends = ([], ends.4)
-ends_act bytes requests part b x (Err fault) ends = (ends.2, ends.3)
+ends_act bytes requests part b x (Err fault) ends = broken_act (1000 - length requests) ends.0 part b fault x ends.3
 
 stream_acts : (b : ActState) (s : Stream) (x : ActState) → AnswersStream b s x → (commands : List Referenced) × (x ≡ acts b commands)
 stream_acts b s x it =
@@ -188,7 +241,7 @@ stream_acts b s x it =
     (first.0 ++ more.0, more.1 ∙ ap (λ c. acts c more.0) first.1 ∙ sym (fold-append act b first.0 more.0))
 
 -- what answers a request that posts a command
-posted : (b : ActState) (m : Message) (a : Referenced) → Posts m a → Answers b m (outcome (answer b a)) (act b a)
+pub posted : (b : ActState) (m : Message) (a : Referenced) → Posts m a → Answers b m (outcome (answer b a)) (act b a)
 posted b m a (post, commands, says) =
     subst (λ method. RouteAnswers b method (route_of (path_of m.target)) m.body (outcome (answer b a)) (act b a)) (sym post)
     (subst (λ route. RouteAnswers b methods.Post route m.body (outcome (answer b a)) (act b a)) (sym commands) (Ok (a.reference, a.command), says, (refl, refl)))

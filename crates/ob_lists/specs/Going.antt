@@ -1,5 +1,5 @@
 -- What any list of calls on a keeper comes to, with crashes and openings between them.
-use Rattle.std.specs.Prelude.{◌≡◌, ◌⊎◌, ⊤, ℕ, true, List, [], ◌++◌, length, Contains, Option, Some, None, Result, Ok, Err, IsErr}
+use Rattle.std.specs.Prelude.{◌≡◌, ◌⊎◌, ⊤, ℕ, ◌<◌, ◌^◌, true, List, [], ◌++◌, length, Contains, Option, Some, None, Result, Ok, Err, IsErr}
 use Rattle.std.specs.List.{AllByRecursion}
 use Rattle.ob_base.specs.declared.stop.Stop.{Stop}
 use Rattle.ob_base.specs.declared.stop.Stop.TheVariants.{Refused, Fault}
@@ -16,8 +16,9 @@ use Rattle.ob_import.specs.Imports.{Says}
 use Rattle.ob_import.specs.Reports.{AreRows}
 use Rattle.ob_store.specs.Calls.{HasCommandCause, OpensAfter}
 use Rattle.ob_store.specs.Keepers.{Ghosts, IsClean, KeeperValue, StoresNumbers, Ties}
+use Rattle.ob_requests.specs.Message.{Message}
 use Rattle.ob_lists.specs.Importing.{Ended, body_of, counted}
-use Rattle.ob_lists.specs.Streaming.{Accepts, AnswersStream, Stream}
+use Rattle.ob_lists.specs.Streaming.{Accepts, Acknowledges, AnswersStream, Sends, Stream}
 use Rattle.ob_lists.specs.Standing.{InUpgrade, KeptOld, MayBe, Stands, Told, acknowledged, imported, streamed}
 
 module _ {S R : Type 0} (g : Ghosts S) (h : Ghosts R) where
@@ -113,3 +114,11 @@ abbrev pub StreamsLaw : Type 0
 StreamsLaw =
     (b x : ActState) (told : List Told) (stream : Stream) → MayBe b told x → Contains told (streamed stream)
     → (y : ActState) × (z : ActState) × (it : AnswersStream y stream z) × ((a : Referenced) → Accepts y it.requests a → Holds x a)
+
+-- where the bytes of a served stream are known, and those that were written for it, fewer than 2^64: each command that its requests
+-- posted and that a whole reply with status 200 was written to is in the book
+abbrev pub WrittenLaw : Type 0
+WrittenLaw =
+    (b x : ActState) (told : List Told) (stream : Stream) → MayBe b told x → Contains told (streamed stream)
+    → (sent had got : List ℕ) → stream.bytes ≡ Some sent → stream.had ≡ Some had → stream.has ≡ Some (had ++ got) → length got < 2 ^ 64
+    → (ms : List Message) (a : Referenced) → Sends sent ms → Acknowledges ms got a → Holds x a

@@ -1,7 +1,8 @@
 //! Laws on lists of calls. They do nothing when they run.
-ghost use Rattle.ob_lists.specs.Going.{JoinLaw, RestartLaw, RowsLaw, StreamsLaw, ToldLaw};
+ghost use Rattle.ob_lists.specs.Going.{JoinLaw, RestartLaw, RowsLaw, StreamsLaw, ToldLaw, WrittenLaw};
 
 use ob_parts::upgrade_law;
+use ob_requests::one_request;
 use ob_routes::answers_law;
 use ob_store::Alter;
 
@@ -20,11 +21,14 @@ pub fn join_law<S: Alter, M: Alter, R: Alter>()
 
 /// Whatever book a list of answered calls may have left, it contains each command that was
 /// acknowledged, the command of each row that an import counts, and each command that a request of
-/// a stream posted and the book answered with a reply.
+/// a stream posted and the book answered with a reply. If the bytes of a stream are known, the bytes
+/// that were written show which commands these are: those whose reply has status 200.
 pub fn told_law()
     ensures commands { ToldLaw }
     ensures rows { RowsLaw }
     ensures streams { StreamsLaw }
+    ensures written { WrittenLaw }
 {
     answers_law();
+    one_request();
 }

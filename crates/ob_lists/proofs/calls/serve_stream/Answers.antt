@@ -14,5 +14,5 @@ returns g c =
     record {
       clean = s.clean;
       stands = λ clean b before stands. stream_stands g.S.Store old new b before c.answers_law.ensures.bookless bytes had has s.unopened clean
-          c.serve_stream.new.reader c.serve_stream.new.writer left c.serve_stream.result s.dropped s.serves s.fails stands;
+          c.serve_stream.new.reader c.serve_stream.new.writer left c.serve_stream.result s.serves s.fails stands;
     }
