@@ -75,7 +75,7 @@ class Thresholds(unittest.TestCase):
         found = answer_of([year], read_daily(str(list_of("seven", rows)), FIRST))
         self.assertEqual([day.saidi for day in found.threshold.days], [5, 4, 3, 2, 1])
         self.assertEqual(len(found.threshold.left_out), 2)
-        rows = [("2017-05-01", 1), ("2019-05-01", 2)]
+        rows = [(date(2017, 5, 1), 1), (date(2019, 5, 1), 2)]
         said = "\n".join(about([year], answer_of([year], read_daily(str(list_of("gap", rows)), FIRST))))
         self.assertIn("No book or list has the days between 2017-12-31 and 2019-01-01.", said)
 
