@@ -126,11 +126,16 @@ def by_period(districts: Sequence[District]) -> dict[PeriodKey, list[District]]:
     return {period: found[period] for period in periods}
 
 
-def gaps(years: Sequence[Sums]) -> Iterator[str]:
-    """What periods that don't follow one another, or aren't of the same districts, leave open."""
-    for earlier, later in zip(years, years[1:]):
-        if later.period.first != earlier.period.last + timedelta(days=1):
-            yield f"No book has the days between {earlier.period.last} and {later.period.first}."
+def gaps(periods: Sequence[PeriodKey | ListedPeriod]) -> Iterator[str]:
+    """What periods that don't follow one another leave open."""
+    what = "book or list" if any(isinstance(period, ListedPeriod) for period in periods) else "book"
+    for earlier, later in zip(periods, periods[1:]):
+        if later.first != earlier.last + timedelta(days=1):
+            yield f"No {what} has the days between {earlier.last} and {later.first}."
+
+
+def changes(years: Sequence[Sums]) -> Iterator[str]:
+    """What periods that aren't of the same districts leave open."""
     for each in years[:-1]:
         here = {district.name for district in each.districts}
         there = {district.name for district in years[-1].districts}
@@ -233,11 +238,12 @@ def about(years: Sequence[Sums], answer: Answer) -> Iterator[str]:
             f"There are {kinds} of {len(threshold.periods)} of the {MOST_YEARS} periods before: all their days are used, as"
             " the standard says."
         )
-    yield from gaps(years)
+    yield from gaps([*threshold.left_out, *threshold.periods, answer.year.period])
+    yield from changes(years)
     for period in listed:
         missing = period.days - period.listed
-        told = f", and not {missing} of them, which count as days without an interruption" if missing else ""
-        yield f"The days from {period.first} to {period.last} are from a list{told}; no program has counted them."
+        told = f" {missing} of them aren't in it, and count as days without an interruption." if missing else ""
+        yield f"The days from {period.first} to {period.last} are from a list, which no program has counted.{told}"
     yield (
         f"{len(threshold.days)} days have a daily SAIDI above 0; {threshold.empty_days} have none, and no logarithm: they"
         " are left out."

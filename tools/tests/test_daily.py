@@ -75,6 +75,9 @@ class Thresholds(unittest.TestCase):
         found = answer_of([year], read_daily(str(list_of("seven", rows)), FIRST))
         self.assertEqual([day.saidi for day in found.threshold.days], [5, 4, 3, 2, 1])
         self.assertEqual(len(found.threshold.left_out), 2)
+        rows = [(date(2017, 5, 1), 1), (date(2019, 5, 1), 2)]
+        said = "\n".join(about([year], answer_of([year], read_daily(str(list_of("gap", rows)), FIRST))))
+        self.assertIn("No book or list has the days between 2017-12-31 and 2019-01-01.", said)
 
 
 class Years(unittest.TestCase):
@@ -95,7 +98,10 @@ class Years(unittest.TestCase):
         listed = read_daily(str(list_of("told", rows)), FIRST)
         said = "\n".join(about([year], answer_of([year], listed)))
         self.assertIn("There are lists of 1 of the 5 periods before", said)
-        self.assertIn("from 2019-01-01 to 2019-12-31 are from a list, and not 2 of them", said)
+        self.assertIn(
+            "from 2019-01-01 to 2019-12-31 are from a list, which no program has counted. 2 of them aren't", said
+        )
+        self.assertNotIn("No book", said)
         self.assertIn("363 days have a daily SAIDI above 0; 0 have none", said)
 
 

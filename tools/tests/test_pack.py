@@ -13,7 +13,8 @@ from pathlib import Path
 from outage_tools.errors import BookError
 from outage_tools.pack.archive import unpack, write_zip
 from outage_tools.pack.manifest import NAME, Changed, Manifest, Packed, differing, files_in, packed, read_manifest
-from outage_tools.pack.verifying import Findings, shown_as, verify
+from outage_tools.pack.shown import shown_as
+from outage_tools.pack.verifying import Findings, verify
 from tests import program_books, support
 from tests.libreoffice import changed
 from tests.support import needs_program

@@ -27,7 +27,6 @@ from outage_tools.pack.files import (
     BOOK,
     LISTS,
     Order,
-    answer_of,
     list_file,
     own_copy,
     run_program,
