@@ -417,7 +417,7 @@ class LeftOut(unittest.TestCase):
     def test_a_spare_transformer_of_a_ticket(self) -> None:
         """It stays, since the ticket's rows would be refused without it."""
         row = "1,SP1,2025-01-01 02:00,2025-01-01 01:00,WIND"
-        reason = "spare parts behind open devices, which are kept since a ticket names a device of them: 1 (row 17)"
+        reason = "spare parts behind open devices, which are kept since a ticket, or the book, has a device of them: 1 (row 17)"
         found = self.told(EDGES + self.SPARE, f"noticed: {reason}", oms=[row])
         self.assertEqual(found.devices["SP1"], ("GRID", "B-SP1", "open"))
         self.assertEqual(found.devices["T2"], ("B-SP1", "B-SP2", "closed"))

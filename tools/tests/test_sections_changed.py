@@ -257,6 +257,14 @@ class ByHand(unittest.TestCase):
         text = "network-edges.csv: row 9: XF1-2 begins in the book at --at, and is otherwise here: give a later --at"
         self.assertEqual(early.said, [text])
 
+    def test_spare_parts_that_the_book_has(self) -> None:
+        """They stay, also where no ticket names them any more."""
+        edges = EDGES + "SP1,switch,N1,N30,open,\nT2,transformer,N30,N31,,\nSP2,switch,N31,N3,open,\n"
+        first = before("spare", *words_of(edges, oms=("1,SP1,2025-01-01 02:00,2025-01-01 01:00,WIND",)))
+        found = run(*words_of(edges), *first.words, "--at", AT)
+        self.assertEqual((found.status, [line for line in found.said if ".db" in line]), (0, []))
+        self.assertIn("SP2", found.devices)
+
     def test_a_meter_keeps_its_section(self) -> None:
         """Also where later tickets don't name it any more; one whose customer the book has on another section is refused."""
         customers = (

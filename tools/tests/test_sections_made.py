@@ -8,6 +8,7 @@ from fractions import Fraction
 from pathlib import Path
 
 from outage_tools.compare import Checked, open_book
+from outage_tools.oms.network import MOST_NODES
 from tests import exports, program_books, support
 from tests.made_grid import PERIOD, Grid, Interval, made_grid
 from tests.network_runs import Cut, run, rows_of
@@ -113,7 +114,10 @@ class Made(unittest.TestCase):
         self.assertEqual({*opened} - {*found.devices}, set())
 
     def test_many_edges(self) -> None:
-        self.compare("many", "large", "--only-opened")
+        _, grid = self.compare("many", "large", "--only-opened")
+        detail = cut_of(grid, "many", "--oms")
+        text = f"nodes with GRID, and a book takes {MOST_NODES}: --only-opened, or outagebook-districts"
+        self.assertTrue(detail.err.splitlines()[-1].endswith(text), detail.err)
 
 
 KINDS = ("line", "line", "line", "busbar", "transformer", "fuse", "switch", "breaker")

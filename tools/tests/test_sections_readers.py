@@ -1,5 +1,7 @@
 """Networks in OpenDSS and CIM: two published feeders, cut as by hand, and what is wrong with a model."""
 
+import os
+import random
 import runpy
 import shutil
 import unittest
@@ -10,6 +12,8 @@ from tests.network_runs import Cut, run, rows_of, written
 
 NETWORK = support.ROOT / "examples/network"
 SINCE = ("--since", "2020-01-01")
+COLUMNS = ("LABEL=name", "CLASS=kind", "NODE1=from", "NODE2=to", "STATE=normal")
+WORDS = ("line=OH,UG", "transformer=XFMR", "busbar=BUS", "breaker=CB", "switch=SW", "fuse=FU", "closed=NC", "open=NO")
 
 SCRIPT = """clear
 New Circuit.Town bus1=HV
@@ -143,6 +147,8 @@ Set voltagebases=[4.16]
             "New Line.Trunk bus1=A bus2=B": "line.trunk was told in row 5 already",
             "New Line.X bus1=A bus2=B 601": "the value '601' has no name of a property",
             "Edit Line.Nowhere bus1=A": "there is no element line.nowhere",
+            "New": "new names nothing",
+            ", ,": "it is no statement",
             "New SwtControl.X SwitchedObj=Line.Nowhere": "there is no element line.nowhere",
             "New SwtControl.X": "swtcontrol.x has no monitoredobj",
             "open Line.Trunk 1": "line.trunk is opened, and is no switch",
@@ -310,6 +316,15 @@ class Cim(unittest.TestCase):
         self.assertEqual(found.devices["LINE-32"], ("S-SW-32", "S-LINE-32", "closed"))
         self.assertIn("equipment that isn't in service: 1", found.err)
 
+    def test_classes_that_are_not_read(self) -> None:
+        """What could join something is told."""
+        text = (NETWORK / "33-bus.xml").read_text().replace("cim:LoadBreakSwitch", "cim:Clamp")
+        found = run("--cim", support.written("clamps.xml", text), *SINCE)
+        self.assertEqual(found.status, 1)
+        report = support.folder() / "clamps.txt"
+        run("--cim", support.folder() / "clamps.xml", *SINCE, "--report", report)
+        self.assertIn("left out: equipment of the class Clamp, which isn't read: 36 (rows ", report.read_text())
+
     def test_consumers_with_counts(self) -> None:
         """Where there are no usage points."""
         text = (NETWORK / "33-bus.xml").read_text()
@@ -321,6 +336,57 @@ class Cim(unittest.TestCase):
         self.assertEqual(len(found.customers), 31 + 4)
         self.assertEqual(sum(section == "S-SW-8" for section in found.customers.values()), 4)
         self.assertIn("noticed: consumers without customerCount, of one customer each: 31", found.err)
+
+
+class Spoilt(unittest.TestCase):
+    """Files spoilt at random are refused, or taken; nothing else happens."""
+
+    def spoilt(self, text: str, draw: random.Random) -> str:
+        for _ in range(draw.randint(1, 4)):
+            at, lines = draw.randrange(len(text)), text.split("\n")
+            row, other = draw.randrange(len(lines)), draw.choice(lines)
+            text = draw.choice(
+                (
+                    text[:at] + text[at + 1 :],
+                    text[:at] + draw.choice(',"\n;=.()[]!~\0NX/# <&') + text[at + draw.randint(0, 1) :],
+                    "\n".join([*lines[:row], other, *lines[row:]]),
+                    "\n".join([*lines[:row], *lines[row + 1 :]]),
+                )
+            )
+        return text
+
+    def test_they_are_refused_or_taken(self) -> None:
+        sample, others = NETWORK / "edges.csv", [NETWORK / f"{name}.csv" for name in ("customers", "oms")]
+        texts = {
+            path.name: path.read_text() for path in (sample, *others, NETWORK / "ieee13.dss", NETWORK / "33-bus.xml")
+        }
+        words = [word for each in COLUMNS for word in ("--column", each)] + [
+            word for each in WORDS for word in ("--word", each)
+        ]
+        taken = 0
+        for seed in range(int(os.environ.get("SPOILT_NETWORKS", "80"))):
+            draw = random.Random(seed)
+            name = draw.choice([*texts])
+            files = {each: support.written(f"spoilt-{each}", text) for each, text in texts.items()}
+            files[name].write_text(self.spoilt(texts[name], draw))
+            if name.endswith(".csv"):
+                found = run(
+                    "--edges",
+                    files["edges.csv"],
+                    "--customers",
+                    files["customers.csv"],
+                    "--oms",
+                    files["oms.csv"],
+                    "--source",
+                    "N100",
+                    *words,
+                )
+            else:
+                found = run("--opendss" if name.endswith("dss") else "--cim", files[name], *SINCE)
+            taken += found.status == 0
+            self.assertIn(found.status, (0, 1), seed)
+            self.assertEqual(found.err.startswith("error: "), found.status == 1, f"{seed}: {found.err}")
+        self.assertGreater(taken, 0)
 
 
 if __name__ == "__main__":

@@ -83,6 +83,7 @@ def kept_names(
         for edge in edges:
             votes[area, became.get(edge.name, "")][1] += 1
     found: dict[int, str] = {}
+    taken: set[str] = set()
     for (area, name), _ in sorted(votes.items(), key=lambda each: ([-count for count in each[1]], each[0])):
         is_section = there.nodes.get(name) is not None
         is_like = (
@@ -90,8 +91,9 @@ def kept_names(
             and name in there.nodes
             and is_section == bool(of_area.get(area) or area not in cut.reached)
         )
-        if is_like and area not in found and name not in found.values():
+        if is_like and area not in found and name not in taken:
             found[area] = name
+            taken.add(name)
     return found
 
 

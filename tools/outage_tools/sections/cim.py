@@ -107,7 +107,7 @@ def things_in(reading: Reading, path: str, notes: Notes, things: dict[str, Thing
     lines = lines_of(path)
     for subject, predicate, value in graph_of(path):
         key, name = key_of(str(subject)), key_of(str(predicate))
-        thing = things.setdefault(key, Thing(key))
+        thing = things.setdefault(key, Thing(key, spot=Spot(path, 0)))
         if thing.spot.number == 0 and key in lines:
             thing.spot = Spot(path, lines[key])
         if str(predicate) == f"{RDF}type":
@@ -146,6 +146,10 @@ class Network:
                     self.take_edge(each)
                 elif each.kind in SOURCES:
                     self.reading.raw.sources.setdefault(self.nodes_of(each, 1)[0], each.spot)
+                elif len(self.terminals[each.key]) > 1:
+                    self.notes[each.spot.file].left_out(
+                        f"equipment of the class {each.kind}, which isn't read", each.spot
+                    )
         points = [each for each in in_order if each.kind == "UsagePoint"]
         consumers = [each for each in in_order if each.kind in ("EnergyConsumer", "ConformLoad", "NonConformLoad")]
         for each in points or consumers:

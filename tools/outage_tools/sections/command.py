@@ -21,6 +21,7 @@ from outage_tools.errors import BookError
 from outage_tools.oms.complaints import BadRow
 from outage_tools.oms.files import Row, add_format_arguments, format_of
 from outage_tools.oms.known import known_of
+from outage_tools.oms.network import MOST_NODES
 from outage_tools.oms.told import lines_of_notes
 from outage_tools.oms.writing import whole_file
 from outage_tools.sections.changed import Change, There, there_of
@@ -217,7 +218,11 @@ def job(args: argparse.Namespace, reading: Reading) -> None:
             with whole_file(args.report) as file:
                 file.writelines(f"{line}\n" for line in report_lines(reading, said))
     print_summary(made, args.output, list(tables))
-    for line in (*lines_of_notes(reading.files), *(f"{args.book}: {each}" for each in said)):
+    if len(made.nodes) >= MOST_NODES:
+        said.append(
+            f"{len(made.nodes) + 1} nodes with GRID, and a book takes {MOST_NODES}: --only-opened, or outagebook-districts"
+        )
+    for line in (*lines_of_notes(reading.files), *(f"{args.book or args.output}: {each}" for each in said)):
         print_error(f"note: {line}")
 
 

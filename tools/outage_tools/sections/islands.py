@@ -100,7 +100,7 @@ def look_at_islands(
             complaints.add(island.first.spot, refused_text(island, why, near.text(island.nodes)))
             continue
         if island.areas <= kept:
-            reason = "spare parts behind open devices, which are kept since a ticket names a device of them"
+            reason = "spare parts behind open devices, which are kept since a ticket, or the book, has a device of them"
             for edge in island.edges or island.ties:
                 notes[edge.spot.file].noticed(reason, edge.spot)
             continue

@@ -47,7 +47,7 @@ class Maker:
         looped = frozenset(edge.name for ring in rings for edge in ring) if self.is_meshed else frozenset()
         placed = placed_of(cut, reading.complaints, looped)
         refuse_without_feeder(cut, placed, of_area, reading.complaints)
-        left = look_at_islands(cut, placed, set(named.edges), reading.complaints, notes)
+        left = look_at_islands(cut, placed, {*named.edges} | self.in_book(), reading.complaints, notes)
         look_at_loops(cut, rings, of_area, self.is_meshed, reading.complaints, notes)
         meters = meter_areas(raw, placed, named, max(cut.area.values()) + 1, reading.complaints)
         reading.refuse()
@@ -68,19 +68,23 @@ class Maker:
         """What the tickets name; meters that had a section in an earlier run keep it."""
         raw = self.reading.raw
         found = named_in(raw, tickets, self.earlier.names, self.reading.complaints) if tickets else Named()
+        meters = {each.meter for each in raw.customers}
         for meter in self.earlier.meters:
-            if any(each.meter == meter for each in raw.customers):
+            if meter in meters:
                 found.meters.setdefault(meter, [])
         return found
+
+    def in_book(self) -> set[str]:
+        """The labels of which the book has a device."""
+        devices = self.there.devices if self.there else {}
+        return {label for label, names in self.earlier.names.items() if any(name in devices for name in names)}
 
     def chosen(self, circuits: Circuits) -> Choice:
         """The devices: in a coarse network with those at which circuits begin, and with those that the book has."""
         if self.choice.opened is None:
             return self.choice
-        devices = self.there.devices if self.there else {}
-        known = {label for label, names in self.earlier.names.items() if devices.keys() & {*names}}
         heads = circuits.devices_at_heads(self.reading.raw, self.choice)
-        return replace(self.choice, opened=self.choice.opened | heads | known)
+        return replace(self.choice, opened=self.choice.opened | heads | self.in_book())
 
     def note_names(self, made: Model, named: Named, tickets: Tickets | None, notes: dict[str, Notes]) -> None:
         """Tells labels that aren't names of a book, and rows of tickets that name no device."""

@@ -19,6 +19,7 @@ VALUE = r"""\([^)]*\)|\[[^\]]*\]|\{[^}]*\}|"[^"]*"|'[^']*'|[^\s,]+"""
 TOKEN = re.compile(rf"(?:([^\s,=\"'(\[{{]+)\s*=\s*)?({VALUE})")
 COMMENT = re.compile(r"!|//")
 MORE = ("~", "more", "m")
+NAMING = ("new", "edit", "redirect", "compile", "open", "close", "enable", "disable", "buscoords")  # something
 SAY_NOTHING = ("set", "solve", "calcvoltagebases", "calcv", "show", "plot", "export", "visualize")  # of the network
 READ_CLASSES = ("circuit", "vsource", "line", "transformer", "reactor", "load", "energymeter", "swtcontrol")
 PROTECTIVE = {"fuse": "fuse", "recloser": "recloser", "relay": "breaker"}
@@ -108,8 +109,13 @@ class Script:
 
     def take(self, text: str, spot: Spot, path: Path, depth: int) -> None:
         """A statement."""
-        first, *rest = ((name.lower(), bare(value)) for name, value in TOKEN.findall(text))
+        tokens = [(name.lower(), bare(value)) for name, value in TOKEN.findall(text)]
+        if not tokens:
+            raise BadRow("it is no statement")
+        first, rest = tokens[0], tokens[1:]
         command = (first[0] or first[1]).lower()
+        if command in NAMING and not rest:
+            raise BadRow(f"{command} names nothing")
         if command in MORE:
             self.put(self.last, rest)
         elif command in ("new", "edit"):
@@ -125,14 +131,14 @@ class Script:
         elif command == "clear":
             self.elements.clear()
         elif command.count(".") and command.split(".")[0] in (*READ_CLASSES, *PROTECTIVE):
-            self.edit(command, first, rest)
+            self.edit(command, first[1], rest)
         elif command not in SAY_NOTHING:
             self.notes[spot.file].left_out(f"the command {command}", spot)
 
-    def edit(self, command: str, first: tuple[str, str], rest: list[tuple[str, str]]) -> None:
+    def edit(self, command: str, value: str, rest: list[tuple[str, str]]) -> None:
         """A property of an element that is there, as `Line.L1.enabled=no`."""
         kind, name, *properties = command.split(".")
-        self.put(self.named(f"{kind}.{name}"), [*((each, first[1]) for each in properties), *rest])
+        self.put(self.named(f"{kind}.{name}"), [*((each, value) for each in properties), *rest])
 
     def element(self, command: str, rest: list[tuple[str, str]], spot: Spot) -> None:
         """A new element, or more of one."""
