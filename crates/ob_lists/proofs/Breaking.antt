@@ -1,10 +1,10 @@
 -- What a fault of a stream leaves of the book that answered its requests.
-use Rattle.std.proofs.Common.{◌≡◌, ◌⊎◌, inl, inr, ℕ, Bool, List, [], ◌∷◌, ◌++◌, Option, None, Some, IfSome, Err, refl, subst}
+use Rattle.std.proofs.Common.{◌≡◌, ◌⊎◌, inl, inr, ℕ, Bool, List, [], Option, None, Some, IfSome, Err, refl}
 use Rattle.ob_base.specs.declared.stop.Fault.{Fault}
 use Rattle.ob_base.specs.declared.stop.Fault.TheVariants.{OutOfMemory, Store, Reopen, Input, Output}
 use Rattle.ob_stream.specs.Watching.{HasJustFailed}
 use Rattle.ob_stream.specs.declared.watched.Watched.{Watched}
-use Rattle.ob_book.specs.Acts.{ActState, Referenced, act}
+use Rattle.ob_book.specs.Acts.{ActState, act}
 use Rattle.ob_store.specs.Keepers.{Ghosts, KeeperValue, StoresEither, Ties}
 use Rattle.ob_requests.specs.Continue.{interim_text}
 use Rattle.ob_requests.specs.Message.{IsCutBody, Message, path_of}

@@ -8,7 +8,7 @@ use Rattle.std.proofs.Math.Seq.{drop-append_seam}
 use Rattle.std.proofs.lemmas.Fmt.{length-decimal-le, decimal_is_IsNumeral, decimal_is_IsNumeral_wide}
 use Rattle.std.proofs.lemmas.List.{append_cancel_left}
 use Rattle.http.specs.StatusCode.{status_text}
-use Rattle.ob_replies.specs.Reply.{allow, connection, content_length, content_type, crlf, reply_text, status_line, type_name}
+use Rattle.ob_replies.specs.Reply.{allow, connection, content_length, content_type, crlf, reply_text, status_line}
 use Rattle.ob_replies.specs.Status.{status_code}
 use Rattle.ob_replies.specs.declared.reply.MediaType.{MediaType}
 use Rattle.ob_replies.specs.declared.reply.MediaType.TheVariants as types

@@ -1,5 +1,5 @@
 -- A command whose acceptance was written is in the book.
-use Rattle.std.proofs.Common.{◌≡◌, ◌≢◌, ◌⊎◌, inl, inr, ℕ, zero, suc, ◌+◌, ◌-◌, ◌<◌, ◌≤◌, ◌^◌, ◌++◌, Bool, true, false, List, [], ◌∷◌, length, take, Option, Some, None, IfSome, Result, Ok, Err, Contains, refl, sym, ap, subst, ◌∙◌, arith, append_assoc, append-nil, length-append}
+use Rattle.std.proofs.Common.{◌≡◌, ◌≢◌, ◌⊎◌, inl, inr, ℕ, zero, suc, ◌+◌, ◌-◌, ◌<◌, ◌≤◌, ◌^◌, ◌++◌, Bool, true, false, List, [], ◌∷◌, length, Option, Some, None, Result, Ok, Err, refl, sym, ap, subst, ◌∙◌, arith, append_assoc, append-nil, length-append}
 use Rattle.std.specs.Prelude.{drop}
 use Rattle.std.specs.Bool.{MatchBool}
 use Rattle.std.specs.Io.KnownBytes.{Appends}
@@ -8,11 +8,10 @@ use Rattle.ob_base.specs.declared.stop.Fault.{Fault}
 use Rattle.ob_base.specs.declared.stop.Fault.TheVariants.{OutOfMemory, Store, Reopen, Input, Output}
 use Rattle.ob_base.specs.declared.stop.Refusal.{Refusal}
 use Rattle.ob_base.specs.declared.stop.Refusal.TheVariants.{BadField, UnknownName, NameTaken, OutOfPeriod, UnknownEntry, Stale, Withdrawn, UnknownCustomer, BadService, RefConflict, Full, MarkedAlready, NotMarked, UnknownCause, BadPeriod, BadBook, BadLife, OldVersion}
-use Rattle.ob_book.specs.Acts.{ActState, Referenced, Reply, act, acts, answer}
+use Rattle.ob_book.specs.Acts.{ActState, Referenced, Reply, act, answer}
 use Rattle.ob_requests.specs.Continue.{continue_text, interim_text}
 use Rattle.ob_requests.specs.Laws.{OneRequest}
 use Rattle.ob_requests.specs.Message.{Message, ReadsKnown, ReadsMessage}
-use Rattle.ob_requests.specs.Reading.{AfterHead}
 use Rattle.ob_requests.specs.Stream.{After, AfterKnown, Requests, ends}
 use Rattle.ob_requests.specs.declared.framing.HeadRefusal.{HeadRefusal}
 use Rattle.ob_requests.specs.declared.framing.HeadRefusal.TheVariants as heads
@@ -25,7 +24,7 @@ use Rattle.ob_desk.specs.Exchanges.{Replies, ending_text, head_status, refusal_t
 use Rattle.ob_desk.specs.Serving.{IsFront, WritesHead}
 use Rattle.ob_desk.specs.declared.stream.Served.{Served}
 use Rattle.ob_lists.specs.Going.{Holds, WrittenLaw}
-use Rattle.ob_lists.specs.Standing.{MayBe, Told, acknowledged, doubted, imported, served, streamed}
+use Rattle.ob_lists.specs.Standing.{acknowledged, doubted, imported, served, streamed}
 use Rattle.ob_lists.specs.Streaming.{Acknowledges, AnswersStream, BreaksStream, EndsStream, IsUnanswered, IsUnwritten, Posts, Sends, Stream}
 use Rattle.ob_lists.proofs.Replies.{code_at, code_of_reply, one_reply}
 use Rattle.ob_lists.proofs.Telling.{broken_act, goes_on, holds_after, holds_answered, posted, replies_act}

@@ -21,8 +21,8 @@ pub fn join_law<S: Alter, M: Alter, R: Alter>()
 
 /// Whatever book a list of answered calls may have left, it contains each command that was
 /// acknowledged, the command of each row that an import counts, and each command that a request of
-/// a stream posted and the book answered with a reply. If the bytes of a stream are known, the bytes
-/// that were written show which commands these are: those whose reply has status 200.
+/// a stream posted and the book answered with a reply. If the bytes of a stream are known, those
+/// that were written show which commands these are: the ones whose reply has status 200.
 pub fn told_law()
     ensures commands { ToldLaw }
     ensures rows { RowsLaw }
