@@ -4,6 +4,7 @@ import csv
 import io
 import re
 import unittest
+import warnings
 from functools import lru_cache
 from pathlib import Path
 
@@ -157,6 +158,8 @@ class Shapes(unittest.TestCase):
 
     def test_what_a_sheet_cannot_hold_is_refused(self) -> None:
         """A cell that XlsxWriter would leave out in silence ends the run."""
+        self.enterContext(warnings.catch_warnings())
+        warnings.simplefilter("ignore", ResourceWarning)  # XlsxWriter leaves files of a workbook open that isn't closed
         sheet = Sheet("wide", [], ["a"] * 16_384, [[1] * 16_385])
         with self.assertRaisesRegex(BookError, "sheet wide: row 2, column 16385 can't hold '1'"):
             write_workbook(support.folder() / "wide.xlsx", [sheet], "wide")
