@@ -46,6 +46,7 @@ class Grid:
     gone: set[str] = field(default_factory=set)  # edges that are there before this second alone
     new: set[str] = field(default_factory=set)  # edges that are there from it on
     turned: dict[str, str] = field(default_factory=dict)  # normal positions from it on
+    counted: dict[int, list[Interval]] = field(default_factory=dict)  # once it was
 
     # Making the network.
 
@@ -246,8 +247,10 @@ class Grid:
 
     def interruptions(self) -> dict[int, list[Interval]]:
         """Those of each customer."""
+        if self.counted:
+            return self.counted
         outages = self.outages()
-        found = {}
+        found = self.counted
         for number, (transformer, since, until) in self.customers.items():
             parts = [(max(a, since), min(b, until or END)) for a, b in outages.get(transformer, ())]
             found[number] = [(a, b) for a, b in parts if a < b]

@@ -5,6 +5,7 @@ import random
 import unittest
 from collections import defaultdict
 from fractions import Fraction
+from functools import lru_cache
 from pathlib import Path
 
 from outage_tools.compare import Checked, open_book
@@ -22,6 +23,11 @@ WORDS = [
     *("--column", "ID=name", "--column", "Type=kind", "--column", "End 1=from", "--column", "End 2=to"),
     *("--column", "Pos=normal", "--word", "closed=1", "--word", "open=0"),
 ]
+
+
+@lru_cache(maxsize=None)
+def grid_of(size: str) -> Grid:
+    return made_grid(*SIZES[size])
 
 
 def files_of(grid: Grid, name: str) -> dict[str, Path]:
@@ -88,7 +94,7 @@ class Made(unittest.TestCase):
     """Of 2,000 edges, in all detail and coarse, and of 20,000 edges, coarse."""
 
     def compare(self, name: str, size: str, tickets: str, *words: str) -> tuple[Cut, Grid]:
-        grid = made_grid(*SIZES[size])
+        grid = grid_of(size)
         found = cut_of(grid, name, tickets, *words)
         self.assertEqual(found.status, 0, found.err)
         with open_book(*book_words(name)) as book:
