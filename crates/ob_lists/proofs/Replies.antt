@@ -111,7 +111,7 @@ onto_long zero n acc long = omega (arith)
 onto_long (suc k) n acc long =
     let less : tens k ≤ n / 10 = omega (arith, long) in
     elim (n / 10 == 0) as (λ t. (n / 10 == 0) ≡ t
-        → length (if t then digit_glyph false (n % 10) ∷ acc else digits_onto k 10 false (n / 10) (digit_glyph false (n % 10) ∷ acc)) ≡ suc k + length acc) [
+    → length (if t then digit_glyph false (n % 10) ∷ acc else digits_onto k 10 false (n / 10) (digit_glyph false (n % 10) ∷ acc)) ≡ suc k + length acc) [
       | true ↦ λ none. absurd (grind (arith, nat_tests, none, less, tens_some k))
       | false ↦ λ some. omega (arith, onto_long k (n / 10) (digit_glyph false (n % 10) ∷ acc) less)
     ] refl

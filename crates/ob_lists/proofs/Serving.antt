@@ -133,8 +133,13 @@ module _ {S : Type 0} (g : Ghosts S) (old new : KeeperValue S) (b : ActState) (b
               book = x;
               answered = bookless_replies law 1000 run.requests so.0 so.2 x so.3;
               written = so.4;
-              ends = (run.rest, run.read, run.few, bookless_breaks g new law reader writer (1000 - length run.requests) run.rest left so.1 x fault
-                  (subst (λ y. Breaks g reader writer (1000 - length run.requests) run.rest left so.1 new y fault) (none_after 1000 run.requests so.0 so.2 so.3) so.5));
+              ends = (
+                run.rest,
+                run.read,
+                run.few,
+                bookless_breaks g new law reader writer (1000 - length run.requests) run.rest left so.1 x fault
+                    (subst (λ y. Breaks g reader writer (1000 - length run.requests) run.rest left so.1 new y fault) (none_after 1000 run.requests so.0 so.2 so.3) so.5),
+              );
             },
           )) (unmoved g old new (MayBe b before) (unopened none) stands)
       | inr it ↦

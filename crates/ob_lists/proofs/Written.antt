@@ -213,27 +213,27 @@ module _ (one : OneRequest) (law : RequestsAreAnsweredOneThing) where
   walk allowed b c (m ∷ requests) text part sent rest (n ∷ ms) a (reply, more, None, answers, is, later) reads sends short acks = absurd answers
   walk allowed b c (m ∷ requests) text part sent rest (n ∷ ms) a (reply, more, Some d, (own, gives, made), is, later) (mid, reads, chain) (tail, sees, sends) short
       (said, closes, after, seen, posts) =
-    let same = one sent m n mid tail reads sees in
-    let last = ends allowed m in
-    let ours : text ++ part ≡ interim_text m.waits ++ (answer_text own last ++ (more ++ part)) =
-        ap (λ t. t ++ part) (is ∙ ap (λ r. interim_text m.waits ++ (r ++ more)) made) ∙ append_assoc (interim_text m.waits) (answer_text own last ++ more) part
-        ∙ ap (λ l. interim_text m.waits ++ l) (append_assoc (answer_text own last) more part) in
-    let theirs : text ++ part ≡ interim_text m.waits ++ (answer_text said closes ++ after) =
-        subst (λ (k : Message). text ++ part ≡ interim_text k.waits ++ (answer_text said closes ++ after)) (sym same.0) seen in
-    let bare = append_cancel_left (interim_text m.waits) (answer_text said closes ++ after) (answer_text own last ++ (more ++ part)) (sym theirs ∙ ours) in
-    let cut = one_reply said.status own.status said.media own.media said.body own.body closes last after (more ++ part)
-        (body_short (interim_text m.waits) after (text ++ part) said closes theirs short) bare in
-    let less : length (more ++ part) < 2 ^ 64 =
-        omega (arith, short, ap length ours, length-append (interim_text m.waits) (answer_text own last ++ (more ++ part)), length-append (answer_text own last) (more ++ part)) in
-    elim posts [
-      | inl (post, ok) ↦
-          let held = accepted b d m a own (subst (λ k. Posts k a) (sym same.0) post) gives (sym cut.0 ∙ ap status_code ok) in
-          let on = replies_act (allowed - 1) d c requests more later in
-          inl (subst (λ s. Holds s a) (sym on.1) (holds_after d on.0 a held))
-      | inr acks ↦
-          walk (allowed - 1) d c requests more part mid rest ms a later chain (subst (λ l. Sends l ms) (sym same.1) sends) less
-          (subst (λ l. Acknowledges ms l a) cut.1 acks)
-    ]
+      let same = one sent m n mid tail reads sees in
+      let last = ends allowed m in
+      let ours : text ++ part ≡ interim_text m.waits ++ (answer_text own last ++ (more ++ part)) =
+      ap (λ t. t ++ part) (is ∙ ap (λ r. interim_text m.waits ++ (r ++ more)) made) ∙ append_assoc (interim_text m.waits) (answer_text own last ++ more) part
+      ∙ ap (λ l. interim_text m.waits ++ l) (append_assoc (answer_text own last) more part) in
+      let theirs : text ++ part ≡ interim_text m.waits ++ (answer_text said closes ++ after) =
+      subst (λ (k : Message). text ++ part ≡ interim_text k.waits ++ (answer_text said closes ++ after)) (sym same.0) seen in
+      let bare = append_cancel_left (interim_text m.waits) (answer_text said closes ++ after) (answer_text own last ++ (more ++ part)) (sym theirs ∙ ours) in
+      let cut = one_reply said.status own.status said.media own.media said.body own.body closes last after (more ++ part)
+      (body_short (interim_text m.waits) after (text ++ part) said closes theirs short) bare in
+      let less : length (more ++ part) < 2 ^ 64 =
+      omega (arith, short, ap length ours, length-append (interim_text m.waits) (answer_text own last ++ (more ++ part)), length-append (answer_text own last) (more ++ part)) in
+      elim posts [
+        | inl (post, ok) ↦
+            let held = accepted b d m a own (subst (λ k. Posts k a) (sym same.0) post) gives (sym cut.0 ∙ ap status_code ok) in
+            let on = replies_act (allowed - 1) d c requests more later in
+            inl (subst (λ s. Holds s a) (sym on.1) (holds_after d on.0 a held))
+        | inr acks ↦
+            walk (allowed - 1) d c requests more part mid rest ms a later chain (subst (λ l. Sends l ms) (sym same.1) sends) less
+            (subst (λ l. Acknowledges ms l a) cut.1 acks)
+      ]
 
   -- ---- what is written of the request in work
   unanswered_alone : (rest part : List ℕ) (b x : ActState) (fault : Fault) (ms : List Message) (a : Referenced) → IsUnanswered (Some rest) part b fault x
@@ -253,7 +253,7 @@ module _ (one : OneRequest) (law : RequestsAreAnsweredOneThing) where
       by_left (Some after) read =
           let same = (one rest it.message m after tail read sees).0 in
           let theirs : part ≡ interim_text it.message.waits ++ (answer_text said closes ++ more) =
-              subst (λ (k : Message). part ≡ interim_text k.waits ++ (answer_text said closes ++ more)) (sym same) seen in
+          subst (λ (k : Message). part ≡ interim_text k.waits ++ (answer_text said closes ++ more)) (sym same) seen in
           by_front it.front it.unavailable (append_cancel_left (interim_text it.message.waits) it.front (answer_text said closes ++ more) (sym it.written ∙ theirs))
           (omega (arith, short, ap length it.written, length-append (interim_text it.message.waits) it.front))
 
@@ -278,7 +278,7 @@ module _ (one : OneRequest) (law : RequestsAreAnsweredOneThing) where
       by_left (Some after) read =
           let same = (one rest it.message m after tail read sees).0 in
           let theirs : part ≡ interim_text it.message.waits ++ (answer_text said closes ++ more) =
-              subst (λ (k : Message). part ≡ interim_text k.waits ++ (answer_text said closes ++ more)) (sym same) seen in
+          subst (λ (k : Message). part ≡ interim_text k.waits ++ (answer_text said closes ++ more)) (sym same) seen in
           by_own it.answers.0 it.answers.1 it.answers.2 same
           (append_cancel_left (interim_text it.message.waits) it.front (answer_text said closes ++ more) (sym it.written ∙ theirs))
           (omega (arith, short, ap length it.written, length-append (interim_text it.message.waits) it.front))
@@ -334,7 +334,7 @@ module _ (one : OneRequest) (law : RequestsAreAnsweredOneThing) where
       → length got < 2 ^ 64 → (ms : List Message) (a : Referenced) → Sends sent ms → Acknowledges ms got a → Holds x a
   of_stream b x s it sent had got knows held has short ms a sends acks =
       let written : had ++ got ≡ had ++ (it.text ++ it.part) =
-          subst (λ o. Appends (Some had) o (it.text ++ it.part)) has (subst (λ o. Appends o s.has (it.text ++ it.part)) held it.written) in
+      subst (λ o. Appends (Some had) o (it.text ++ it.part)) has (subst (λ o. Appends o s.has (it.text ++ it.part)) held it.written) in
       let same = append_cancel_left had got (it.text ++ it.part) written in
       by_end b it.book x it.requests it.text it.part sent it.answered (subst (λ l. length l < 2 ^ 64) same short) ms a sends (subst (λ l. Acknowledges ms l a) same acks)
       s.ended (subst (λ o. EndsStream o it.requests it.part it.book s.ended x) knows it.ends)
