@@ -1,6 +1,6 @@
 -- What whoever adds up the interruption rows of a book gets.
-use Rattle.std.specs.Prelude.{◌≡◌, ℕ, ◌-◌, ◌*◌, ◌<◌, ◌==◌, ◌&&◌, Bool, true, not, map, min, max}
-use Rattle.std.specs.List.{filter, sum_by}
+use Rattle.std.specs.Prelude.{◌≡◌, ℕ, ◌-◌, ◌*◌, ◌<◌, ◌==◌, ◌&&◌, ◌+◌, Bool, true, not, nat_le, length, map, slice_index, min, max}
+use Rattle.std.specs.List.{count_by, filter, sum_by}
 use Rattle.std.specs.List as lists
 use Rattle.ob_cust.specs.Blocks.{has_service}
 use Rattle.ob_cust.specs.declared.Customer.{Customer}
@@ -51,6 +51,12 @@ SustainedRowsAreCounted =
 abbrev pub SustainedRowsAreTimed : Type 0
 SustainedRowsAreTimed =
     (b : BookState) (which : Which) → IsSoundState b → seconds_of_rows (is_sustained_among which) (interruption_rows b) ≡ (counts_of_book b which).csi
+
+-- the customers who have 1 + n or more sustained rows are those that CN_n counts at place n
+abbrev pub CustomersOfRowsAreCounted : Type 0
+CustomersOfRowsAreCounted =
+    (b : BookState) (which : Which) (n : ℕ) → IsSoundState b → n < 10
+    → count_by (λ c. nat_le (1 + n) (length (filter (is_sustained_among which) (filter (is_row_of c) (interruption_rows b))))) b.customers ≡ slice_index (counts_of_book b which).cn_n n
 
 -- the customers of the momentary rows are the momentary customer interruptions, MI
 abbrev pub MomentaryRowsAreCounted : Type 0
