@@ -14,7 +14,7 @@ returns-in-Ok-clause-after g c =
 pub returns-in-Err-clause-shows : goal.returns-in-Err-clause-shows
 returns-in-Err-clause-shows g c =
     λ clean b told stands. stopped_shows g.S.Store c.next_law.ensures.period c.told_law.ensures.commands b told c.load.new.keeper c.args.dim c.args.key
-    c.args.which c.args.keeper.now c.in-Err.field-0 (c.in-Err.ensures.loads clean b told stands)
+    c.args.which c.args.keeper.now c.in-Err.stop (c.in-Err.ensures.loads clean b told stands)
 
 pub returns-in-Err-clause-after : goal.returns-in-Err-clause-after
 returns-in-Err-clause-after g c =
