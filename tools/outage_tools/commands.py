@@ -11,6 +11,7 @@ import sqlite3
 import sys
 from collections.abc import Iterable, Iterator
 from dataclasses import dataclass
+from datetime import datetime
 from typing import IO
 
 from outage_tools.cli import Parser, add_table_arguments, run_job
@@ -18,6 +19,16 @@ from outage_tools.compare import open_book
 
 HEADER = ("kind", "ref", "f1", "f2", "f3", "f4", "f5", "f6")
 MOST_FIELDS = 6
+
+
+def read_second(text: str) -> int:
+    """The second of a moment of a row: digits, or a civil moment with its offset; a ValueError where it is neither."""
+    if text.isdigit():
+        return int(text)
+    moment = datetime.fromisoformat(text.replace("Z", "+00:00"))
+    if moment.tzinfo is None:
+        raise ValueError("a moment has its offset")
+    return int(moment.timestamp())
 
 
 def row_of(kind: str, ref: str, *fields: object) -> list[str]:

@@ -15,10 +15,9 @@ A device whose life is over by then is left out. A customer keeps its number and
 import re
 import sys
 from collections.abc import Iterator, Mapping
-from datetime import datetime
 
 from outage_tools.cli import Parser, add_table_arguments, print_error, run_job
-from outage_tools.commands import read_commands, row_of, write_rows
+from outage_tools.commands import read_commands, read_second, row_of, write_rows
 from outage_tools.compare import Checked, open_book
 from outage_tools.errors import BookError
 from outage_tools.rows import GRID, Book, Entry
@@ -92,16 +91,6 @@ def rows_of(found: Checked, first: int, prefix: str = PREFIX) -> Iterator[list[s
     yield from network_rows(book, first)
     yield from customer_rows(found, first)
     yield from switching_rows(book, first, ticket_refs(found, prefix))
-
-
-def read_second(text: str) -> int:
-    """A second in digits, or a civil moment with its offset."""
-    if text.isdigit():
-        return int(text)
-    moment = datetime.fromisoformat(text.replace("Z", "+00:00"))
-    if moment.tzinfo is None:
-        raise ValueError("a moment has its offset")
-    return int(moment.timestamp())
 
 
 def main() -> int:

@@ -7,8 +7,10 @@ is decoded: a row is where it begins and ends in the bytes, so that a part of th
 import csv
 import io
 import re
+import sys
 from dataclasses import dataclass
 from functools import cached_property
+from pathlib import Path
 
 from outage_tools.errors import BookError
 
@@ -43,6 +45,14 @@ class Text:
         since, until = self.rows[place]
         text = self.data[since:until].decode("utf-8", "backslashreplace")
         return next(csv.reader(io.StringIO(text, newline="")), [])
+
+
+def bytes_of(path: str) -> bytes:
+    """The bytes of a file, or of standard input."""
+    try:
+        return sys.stdin.buffer.read() if path == "-" else Path(path).read_bytes()
+    except OSError as error:
+        raise BookError(f"{path}: {error.strerror}") from None
 
 
 def text_of(data: bytes, name: str) -> Text:

@@ -22,6 +22,7 @@ from fractions import Fraction
 from pathlib import Path
 
 from outage_tools.cli import Parser, print_error, run_job
+from outage_tools.commands import HEADER
 from outage_tools.compare import figures_of_table
 from outage_tools.copies import copy_of
 from outage_tools.counts import index_text
@@ -29,7 +30,7 @@ from outage_tools.errors import BookError, Differs
 from outage_tools.exported import ExportedRows, add_export_arguments, exported_rows
 from outage_tools.references import sources_of
 from outage_tools.serving import LONGEST_BODY, Desk, Refusal, served
-from outage_tools.texts import Text, text_of
+from outage_tools.texts import Text, bytes_of, text_of
 
 FIRST_AT_ONCE, MOST_AT_ONCE = 256, 4_096  # rows that are sent together
 LONG = 1.0  # seconds; parts that take longer don't grow, so that a person sees how far it is
@@ -37,7 +38,6 @@ MOST_DAYS_SHOWN = 10
 REFUSED = 2
 
 LISTED = ("cause ", "feeder ", "day ")  # figures of which a table has many
-COLUMNS = ("kind", "ref", "f1", "f2", "f3", "f4", "f5", "f6")
 MEANINGS = {
     2: "no node, section or device has the name",
     3: "the name, the code or the customer's number is in use",
@@ -99,7 +99,7 @@ def meaning_of(refusal: Refusal) -> str:
     if refusal.number == 1:
         if not refusal.detail:
             return "the row hasn't eight fields"
-        return f"{COLUMNS[refusal.detail - 1]} can't be read"
+        return f"{HEADER[refusal.detail - 1]} can't be read"
     return MEANINGS.get(refusal.number, refusal.name).format(detail=refusal.detail)
 
 
@@ -200,7 +200,7 @@ def trial_of(book: Path, text: Text, program: str, prefix: str, exports: Exporte
             before = desk.table()
             header = desk.import_text(text.head)
             if header.refusal:
-                raise BookError(f"the header isn't {','.join(COLUMNS)}: {header.refusal} row 0, and no row is read")
+                raise BookError(f"the header isn't {','.join(HEADER)}: {header.refusal} row 0, and no row is read")
             progress = Progress()
             refusals = dict(act_rows(desk, text, progress))
             progress.end()
@@ -317,14 +317,6 @@ def write_json(trial: Trial, _text: Text) -> None:
     }
     json.dump(whole, sys.stdout, indent=1)
     print()
-
-
-def bytes_of(path: str) -> bytes:
-    """The bytes of a file, or of standard input."""
-    try:
-        return sys.stdin.buffer.read() if path == "-" else Path(path).read_bytes()
-    except OSError as error:
-        raise BookError(f"{path}: {error.strerror}") from None
 
 
 def make_parser() -> Parser:
