@@ -3,7 +3,7 @@
 
 import sys
 
-from outage_tools.compare import main
+from outage_tools.by_oracle import main
 
 if __name__ == "__main__":
     sys.exit(main())

@@ -35,7 +35,7 @@ def cause_rows(found: Checked) -> list[CauseRow]:
     """The causes, greatest first."""
     book, served = found.book, found.book.served_seconds()
     total = sum(amount for (dim, _), amount in book.postings.items() if dim == CAUSE)
-    sums = tallies(found.interruptions, lambda each: each.run.cause)
+    sums = tallies(found.interruptions, lambda each: each.cause)
     rows = []
     for code, name in book.causes.items():
         posted = book.postings[CAUSE, code]
@@ -77,7 +77,7 @@ class CauseGroup:
 def cause_group_rows(found: Checked, of_causes: Groups) -> list[CauseGroup]:
     """Each group in both sets, as the list names them first, and what is in no group, where there is anything."""
     book, served = found.book, found.book.served_seconds()
-    sums = tallies_of_sets(found, lambda each: of_causes.get(each.run.cause, ""))
+    sums = tallies_of_sets(found, lambda each: of_causes.get(each.cause, ""))
     names = groups_in_order(of_causes)
     if any(sums[which].get("") for which in SETS):
         names.append("")

@@ -1,12 +1,12 @@
-"""Amounts and counts over interruptions, and the indices as exact fractions."""
+"""Counts over interruptions, and the indices as exact fractions."""
 
-from collections import defaultdict
+from collections import Counter
 from collections.abc import Iterable
 from dataclasses import dataclass, field
 from fractions import Fraction
 
-from outage_tools.rows import CAUSE, DAY, FEEDER, Book, Postings
-from outage_tools.sweep import LONGEST_MOMENTARY, Interruption, Run
+from outage_tools.interruptions import Interruption
+from outage_tools.rows import Block
 
 SETS = ("all", "unmarked")
 
@@ -21,33 +21,18 @@ class Counts:
     with_some: list[int] = field(default_factory=lambda: [0] * 10)
 
 
-def amounts_of(book: Book, interruptions: Iterable[Interruption]) -> Postings:
-    """The customer-seconds without supply by dimension and key."""
-    amounts: Postings = defaultdict(int)
+def counts_of(interruptions: Iterable[Interruption]) -> Counts:
+    """The counts over some interruptions."""
+    counts, numbers = Counts(), Counter[Block]()
     for each in interruptions:
-        amounts[CAUSE, each.run.cause] += each.customer_seconds
-        amounts[FEEDER, book.sections[each.run.section].feeder] += each.customer_seconds
-        for day, seconds in book.period.parts(each.since, each.until):
-            amounts[DAY, day] += each.customers * seconds
-    return amounts
-
-
-def counts_of(book: Book, runs: Iterable[Run], unmarked: bool) -> Counts:
-    """The counts over all interruptions, or over those that don't begin on a marked day, block by block."""
-    spans_of: dict[int, list[tuple[int, int]]] = defaultdict(list)
-    for run in runs:
-        spans_of[run.section].append((run.since, run.until))
-    counts = Counts()
-    for block in book.blocks:
-        parts = [(max(since, block.since), min(until, block.until)) for since, until in spans_of[block.section]]
-        lengths = [
-            until - since for since, until in parts if since < until and not (unmarked and book.is_marked(since))
-        ]
-        sustained = [length for length in lengths if length > LONGEST_MOMENTARY]
-        counts.sustained += block.customers * len(sustained)
-        counts.sustained_seconds += block.customers * sum(sustained)
-        counts.momentary += block.customers * (len(lengths) - len(sustained))
-        for n in range(min(10, len(sustained))):
+        if each.is_sustained:
+            counts.sustained += each.customers
+            counts.sustained_seconds += each.customer_seconds
+            numbers[each.block] += 1
+        else:
+            counts.momentary += each.customers
+    for block, number in numbers.items():
+        for n in range(min(10, number)):
             counts.with_some[n] += block.customers
     return counts
 

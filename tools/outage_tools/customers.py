@@ -1,25 +1,11 @@
 """Customers as they were served: groups of equal service, the worst served first."""
 
-from collections import defaultdict
 from dataclasses import dataclass
 
 from outage_tools.compare import Checked
 from outage_tools.forms import Figures, Value
+from outage_tools.interruptions import Interruption
 from outage_tools.rows import Block, Book
-from outage_tools.sweep import LONGEST_MOMENTARY, Run
-
-
-@dataclass(frozen=True)
-class Had:
-    """The part of a run that falls into a service: an interruption that each of its customers had."""
-
-    run: Run
-    since: int
-    seconds: int
-
-    @property
-    def is_sustained(self) -> bool:
-        return self.seconds > LONGEST_MOMENTARY
 
 
 @dataclass(frozen=True)
@@ -27,10 +13,10 @@ class Served:
     """Customers of one section with the same service within the period, and the interruptions of each, in their order."""
 
     block: Block
-    had: tuple[Had, ...]
+    had: tuple[Interruption, ...]
 
     @property
-    def sustained(self) -> list[Had]:
+    def sustained(self) -> list[Interruption]:
         return [each for each in self.had if each.is_sustained]
 
     @property
@@ -60,20 +46,15 @@ class Served:
 
     def causes_text(self, book: Book) -> str:
         """Cause and seconds of each interruption, in the order of time."""
-        return "; ".join(f"{book.causes.get(each.run.cause, each.run.cause)} {each.seconds}" for each in self.had)
+        return "; ".join(f"{book.causes.get(each.cause, each.cause)} {each.seconds}" for each in self.had)
 
 
 def served_customers(found: Checked) -> list[Served]:
     """All customers that are in service in the period, each counted once, the worst served first."""
-    runs: dict[int, list[Run]] = defaultdict(list)
-    for run in found.runs:
-        runs[run.section].append(run)
-    groups = []
-    for block in found.book.blocks:
-        parts = [(run, max(run.since, block.since), min(run.until, block.until)) for run in runs[block.section]]
-        had = tuple(Had(run, since, until - since) for run, since, until in parts if since < until)
-        groups.append(Served(block, had))
-    return sorted(groups, key=Served.rank)
+    had: dict[Block, list[Interruption]] = {block: [] for block in found.book.blocks}
+    for each in found.interruptions:
+        had[each.block].append(each)
+    return sorted((Served(block, tuple(listed)) for block, listed in had.items()), key=Served.rank)
 
 
 CUSTOMERS_COLUMNS = {

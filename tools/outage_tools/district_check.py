@@ -8,14 +8,14 @@ from typing import Any
 
 from outage_tools.cli import Parser
 from outage_tools.compare import Checked, open_book
-from outage_tools.counts import SETS, Counts, amounts_of, counts_of, indices_of, quotient_text
+from outage_tools.counts import SETS, Counts, counts_of, indices_of, quotient_text
 from outage_tools.district_cut import TIE_COLUMNS
 from outage_tools.district_files import read_rows
 from outage_tools.errors import BookError
 from outage_tools.parallel import over_books
 from outage_tools.rows import CAUSE, GRID, Book, Device, Entry
 from outage_tools.sums import District, add_up, district_of, tables_given
-from outage_tools.sweep import Run, Supply, bounds_of_lives, interruptions_of
+from outage_tools.supply import Run, Supply, bounds_of_lives, interruptions_of
 
 
 @dataclass(frozen=True)
@@ -272,10 +272,11 @@ def difference(more: Counts, less: Counts) -> Counts:
 def cost_of(name: str, found: Part, runs: Sequence[Run]) -> Cost:
     """What the true runs of a district have more than its book."""
     book, here = found.book, found.district.counts
-    amounts = amounts_of(book, interruptions_of(book, runs))
-    more = sum(amount for (dim, _), amount in amounts.items() if dim == CAUSE)
+    interruptions = {"all": interruptions_of(book, runs)}
+    interruptions["unmarked"] = [each for each in interruptions["all"] if not book.is_marked(each.since)]
+    more = sum(each.customer_seconds for each in interruptions["all"])
     less = sum(book.postings[CAUSE, code] for code in book.causes)
-    counts = {each: difference(counts_of(book, runs, each == "unmarked"), here[each]) for each in SETS}
+    counts = {each: difference(counts_of(interruptions[each]), here[each]) for each in SETS}
     return Cost(name, more - less, counts)
 
 

@@ -10,10 +10,10 @@ from fractions import Fraction
 from outage_tools.compare import Checked
 from outage_tools.counts import quotient
 from outage_tools.forms import Figures, Value
+from outage_tools.interruptions import Interruption
 from outage_tools.outages import references
 from outage_tools.rates import Tally, both, quotient_columns
-from outage_tools.rows import Block, Book, Entry
-from outage_tools.sweep import Interruption, blocks_by_section
+from outage_tools.rows import Book, Entry
 
 Rule = re.Pattern[str]
 
@@ -66,28 +66,21 @@ class Event:
 
     def causes(self, book: Book) -> str:
         """The causes, in the order in which they come."""
-        return "; ".join(dict.fromkeys(book.causes.get(each.run.cause, "") for each in self.interruptions))
+        return "; ".join(dict.fromkeys(book.causes.get(each.cause, "") for each in self.interruptions))
 
     def feeders(self, book: Book) -> list[int]:
         """The home feeders of the customers."""
-        return sorted({book.sections[each.run.section].feeder for each in self.interruptions})
+        return sorted({book.sections[each.section].feeder for each in self.interruptions})
 
     def marked(self, book: Book) -> str:
         """`yes` where all of it begins on marked days, `partly` where some does."""
         marks = {book.is_marked(each.since) for each in self.interruptions}
         return "partly" if len(marks) == 2 else "yes" if marks == {True} else ""
 
-    def customers(self, blocks: dict[int, list[Block]]) -> int:
-        """The customers who were interrupted, each counted once."""
-        spans: dict[int, list[tuple[int, int]]] = defaultdict(list)
-        for each in self.interruptions:
-            spans[each.run.section].append((each.since, each.until))
-        return sum(
-            block.customers
-            for section, parts in spans.items()
-            for block in blocks.get(section, ())
-            if any(max(since, block.since) < min(until, block.until) for since, until in parts)
-        )
+    @property
+    def customers(self) -> int:
+        """The customers who were interrupted, each counted once: a customer is in one block."""
+        return sum(block.customers for block in {each.block for each in self.interruptions})
 
 
 def rank(event: Event) -> tuple[int, int, str]:
@@ -116,7 +109,7 @@ def events_of(found: Checked, rule: Rule = DEFAULT_RULE) -> list[Event]:
         if entry.is_kept:
             event_of(entry).entries.append(entry)
     for each in found.interruptions:
-        event_of(each.run.cutter).interruptions.append(each)
+        event_of(each.cutter).interruptions.append(each)
     return sorted((event for event in by_name.values() if event.interruptions), key=rank)
 
 
@@ -146,8 +139,7 @@ def events(found: Checked, rule: Rule = DEFAULT_RULE) -> Figures:
         "An interruption belongs to the event that began it; the events' customer-seconds add up to W.",
         *told_unfit(all_events),
     ]
-    blocks = blocks_by_section(found.book)
-    return Figures("events", about, EVENT_COLUMNS, [event_values(found.book, event, blocks) for event in all_events])
+    return Figures("events", about, EVENT_COLUMNS, [event_values(found.book, event) for event in all_events])
 
 
 def told_unfit(all_events: Iterable[Event]) -> list[str]:
@@ -156,7 +148,7 @@ def told_unfit(all_events: Iterable[Event]) -> list[str]:
     return [f"{unfit} references that the rule doesn't fit, each an event of its own."] if unfit else []
 
 
-def event_values(book: Book, event: Event, blocks: dict[int, list[Block]]) -> list[Value]:
+def event_values(book: Book, event: Event) -> list[Value]:
     """The values of EVENT_COLUMNS."""
     zone, tally = book.period.zone, event.tally
     return [
@@ -166,7 +158,7 @@ def event_values(book: Book, event: Event, blocks: dict[int, list[Block]]) -> li
         zone.text_of(event.last),
         len(event.steps),
         len(event.entries),
-        event.customers(blocks),
+        event.customers,
         tally.sustained,
         tally.momentary,
         tally.customer_seconds,

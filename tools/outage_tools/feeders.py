@@ -11,7 +11,7 @@ def feeder_rows(found: Checked) -> list[GroupRow]:
     """The feeders, over the customers of their sections."""
     book, sections = found.book, found.book.sections
     served = served_by(book, lambda block: sections[block.section].feeder)
-    sums = tallies_of_sets(found, lambda each: sections[each.run.section].feeder)
+    sums = tallies_of_sets(found, lambda each: sections[each.section].feeder)
     rows = []
     for feeder in sorted({section.feeder for section in sections.values()}):
         for name in SETS:
@@ -34,7 +34,7 @@ def sections(found: Checked) -> Figures:
     """The same of each line section."""
     book = found.book
     served = served_by(book, lambda block: block.section)
-    sums = tallies_of_sets(found, lambda each: each.run.section)
+    sums = tallies_of_sets(found, lambda each: each.section)
     rows: list[list[Value]] = []
     for node, section in book.sections.items():
         for name in SETS:

@@ -6,7 +6,7 @@ from dataclasses import dataclass, field
 from functools import cached_property
 
 from outage_tools.rows import GRID, Book
-from outage_tools.sweep import bounds_of_lives
+from outage_tools.supply import bounds_of_lives
 
 Ways = dict[int, list[tuple[int, int]]]  # for each node, the numbers of the devices at it, each with the node behind it
 

@@ -109,7 +109,7 @@ FIGURES: dict[str, Callable[[Checked], Figures]] = {
 
 def indices_by(found: Checked, args: Namespace) -> Figures:
     """The indices with the hours and the connected kVA that the words of the command line give."""
-    loads = further.loads_of(args.kva, found.book, found.database) if args.kva else None
+    loads = further.loads_of(args.kva, found) if args.kva else None
     return indices(found, args.hours or further.HOURS, loads)
 
 

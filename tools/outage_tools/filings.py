@@ -95,7 +95,7 @@ def facts(found: Checked) -> Iterator[Line]:
 
 def rates_of(found: Checked, has: Callable[[int], bool], which: str) -> Rates:
     """The interruptions of one of the two sets whose causes are asked for, over all customers served."""
-    sums = tallies_of_sets(found, lambda each: each.run.cause)[which]
+    sums = tallies_of_sets(found, lambda each: each.cause)[which]
     total = Tally()
     for cause, tally in sums.items():
         if has(cause):

@@ -1,12 +1,11 @@
 """Indices of IEEE Std 1366-2012 that the program doesn't print: MAIFI, CTAIDI, CELID, CEMSMI, and of load ASIFI and ASIDI.
 
-They come from the runs that were compared with the program's figures, over the same customers served (S / P), with the
-same line between sustained and momentary interruptions. Each is an exact quotient, or undefined where there is nothing
+They come from the program's interruptions, over the same customers served (S / P), with the same line between sustained
+and momentary interruptions. Each is an exact quotient, or undefined where there is nothing
 to divide by.
 """
 
 import re
-import sqlite3
 from collections import defaultdict
 from collections.abc import Iterable, Iterator, Mapping, Sequence
 from dataclasses import dataclass, field
@@ -15,9 +14,11 @@ from fractions import Fraction
 from outage_tools.compare import Checked
 from outage_tools.counts import SETS, Counts, quotient
 from outage_tools.errors import BookError
+from outage_tools.interruptions import LONGEST_MOMENTARY, Interruption
 from outage_tools.lists import heads_of, read_list
-from outage_tools.rows import Book
-from outage_tools.sweep import LONGEST_MOMENTARY, Run
+from outage_tools.rates import counted
+from outage_tools.rows import Block, Book
+from outage_tools.whole_service import whole_interruptions
 
 HOUR = 3_600
 HOURS = (Fraction(4), Fraction(8), Fraction(12), Fraction(24))  # of CELID, where none are asked for
@@ -28,8 +29,6 @@ TERMS = (
     "MI are customers' momentary interruptions, each counted by itself; CNS_t customers with a sustained interruption of t"
     " hours or more, CNT_t with t hours or more of sustained ones in all; CNM_n with n or more of either kind."
 )
-
-Spans = dict[int, list[tuple[int, int]]]
 
 
 @dataclass
@@ -50,30 +49,18 @@ class FurtherCounts:
         )
 
 
-def spans_of(runs: Iterable[Run]) -> Spans:
-    """The runs of each section, as intervals."""
-    spans: Spans = defaultdict(list)
-    for run in runs:
-        spans[run.section].append((run.since, run.until))
-    return spans
+def lengths_of(interruptions: Iterable[Interruption]) -> dict[Block, list[int]]:
+    """The seconds of the interruptions that the customers of each block had."""
+    lengths: dict[Block, list[int]] = defaultdict(list)
+    for each in interruptions:
+        lengths[each.block].append(each.seconds)
+    return lengths
 
 
-def lengths_within(
-    book: Book, spans: Iterable[tuple[int, int]], since: int, until: int, unmarked: bool
-) -> Iterator[int]:
-    """The seconds of each interruption of a service, without those that begin on a marked day where they don't count."""
-    for begin, end in spans:
-        begin, end = max(begin, since), min(end, until)
-        if begin < end and not (unmarked and book.is_marked(begin)):
-            yield end - begin
-
-
-def further_counts(book: Book, runs: Iterable[Run], unmarked: bool, hours: Sequence[Fraction]) -> FurtherCounts:
-    """The counts over all interruptions, or over the unmarked ones, block by block of customers of equal service."""
-    spans = spans_of(runs)
+def further_counts(interruptions: Iterable[Interruption], hours: Sequence[Fraction]) -> FurtherCounts:
+    """The counts over some interruptions, block by block of customers of equal service."""
     counts = FurtherCounts(single=dict.fromkeys(hours, 0), total=dict.fromkeys(hours, 0))
-    for block in book.blocks:
-        lengths = list(lengths_within(book, spans.get(block.section, ()), block.since, block.until, unmarked))
+    for block, lengths in lengths_of(interruptions).items():
         sustained = [length for length in lengths if length > LONGEST_MOMENTARY]
         for n in range(min(MOST_CEMSMI, len(lengths))):
             counts.with_any[n] += block.customers
@@ -150,9 +137,10 @@ class Load:
 
 @dataclass(frozen=True)
 class Loads:
-    """The connected loads of a book, and what is to be said of the file that they come from."""
+    """The connected loads of a book, the interruptions that they had, and what is to be said of the file that they come from."""
 
     loads: list[Load]
+    interruptions: list[Interruption]
     about: str
 
 
@@ -173,21 +161,21 @@ def read_kva(path: str) -> tuple[str, dict[str, Fraction]]:
     return kind, found
 
 
-def loads_of(path: str, book: Book, database: sqlite3.Connection) -> Loads:
+def loads_of(path: str, found: Checked) -> Loads:
     """The connected loads of a book by a file; each section with customers, or each customer served, has to be in it."""
     kind, kva = read_kva(path)
-    period = book.period
+    book, period = found.book, found.book.period
     if kind == "section":
         names = {book.sections[block.section].name for block in book.blocks}
         known = {section.name: section.node for section in book.sections.values()}
         loads = [Load(known[name], period.first, period.end, each) for name, each in kva.items() if name in known]
     else:
-        served = database.execute(
+        served = found.database.execute(
             "SELECT id, section, max(since, :first), min(ifnull(until, :end), :end) FROM customer"
             " WHERE since < :end AND ifnull(until, :end) > max(since, :first) ORDER BY id",
             {"first": period.first, "end": period.end},
         ).fetchall()
-        known = {str(number): number for number, in database.execute("SELECT id FROM customer")}
+        known = {str(number): number for number, in found.database.execute("SELECT id FROM customer")}
         names = {str(number) for number, *_ in served}
         loads = [
             Load(section, since, until, kva[str(number)])
@@ -199,16 +187,29 @@ def loads_of(path: str, book: Book, database: sqlite3.Connection) -> Loads:
         raise BookError(f"{path} hasn't the {kind} {missing[0]}, and {len(missing)} of the book's in all")
     others = len(kva.keys() - known.keys())
     about = f"ASIFI and ASIDI are over the connected kVA of {len(loads)} {kind}s by {path}"
-    return Loads(loads, about + (f"; {others} of its rows are of no {kind} of this book." if others else "."))
+    return Loads(
+        loads,
+        interruptions_of_loads(found, loads),
+        about + (f"; {others} of its rows are of no {kind} of this book." if others else "."),
+    )
 
 
-def load_indices(book: Book, runs: Iterable[Run], loads: Sequence[Load], unmarked: bool) -> dict[str, Fraction | None]:
+def interruptions_of_loads(found: Checked, loads: Iterable[Load]) -> list[Interruption]:
+    """The interruptions of the book, and of sections with load in which no customer is in service all the time."""
+    blocks = {(block.section, block.since, block.until) for block in found.book.blocks}
+    others = {load.section for load in loads if (load.section, load.since, load.until) not in blocks}
+    return [*found.interruptions, *whole_interruptions(found, others)]
+
+
+def load_indices(book: Book, loads: Loads, unmarked: bool) -> dict[str, Fraction | None]:
     """ASIFI, and ASIDI in minutes, over the kVA connected: its average over the period."""
-    spans = spans_of(runs)
+    counting = (
+        each for each in loads.interruptions if each.is_sustained and not (unmarked and book.is_marked(each.since))
+    )
+    lengths = {(block.section, block.since, block.until): parts for block, parts in lengths_of(counting).items()}
     connected, interrupted, interrupted_seconds = Fraction(0), Fraction(0), Fraction(0)
-    for load in loads:
-        lengths = lengths_within(book, spans.get(load.section, ()), load.since, load.until, unmarked)
-        sustained = [length for length in lengths if length > LONGEST_MOMENTARY]
+    for load in loads.loads:
+        sustained = lengths.get((load.section, load.since, load.until), [])
         connected += load.kva * (load.until - load.since)
         interrupted += load.kva * len(sustained)
         interrupted_seconds += load.kva * sum(sustained)
@@ -225,9 +226,9 @@ def computed(
     """The further indices of a compared book, of both sets."""
     indices: dict[str, dict[str, Fraction | None]] = {}
     for name in SETS:
-        further = further_counts(found.book, found.runs, name == "unmarked", hours)
+        further = further_counts(counted(found, name), hours)
         served, length = found.book.served_seconds(), found.book.period.length
         indices[name] = further_indices(found.counts[name], further, served, length)
         if loads is not None:
-            indices[name].update(load_indices(found.book, found.runs, loads.loads, name == "unmarked"))
+            indices[name].update(load_indices(found.book, loads, name == "unmarked"))
     return indices

@@ -3,9 +3,9 @@
 from outage_tools.commands import read_commands
 from outage_tools.compare import Checked
 from outage_tools.forms import Figures, Value
+from outage_tools.interruptions import Interruption, joined
 from outage_tools.rates import yes_if
 from outage_tools.rows import Book
-from outage_tools.sweep import Interruption
 
 
 INTERRUPTION_COLUMNS = {
@@ -32,13 +32,13 @@ def interruptions(found: Checked) -> Figures:
     about = [
         "Each longest interval in which customers were in service and without supply, by section and first second."
     ]
-    rows = [interruption_values(found.book, each, refs) for each in found.interruptions]
+    rows = [interruption_values(found.book, each, refs) for each in joined(found.interruptions)]
     return Figures("interruptions", about, INTERRUPTION_COLUMNS, rows)
 
 
 def interruption_values(book: Book, each: Interruption, refs: dict[int, str]) -> list[Value]:
     """The values of INTERRUPTION_COLUMNS."""
-    section, cutter = book.sections[each.run.section], each.run.cutter
+    section, cutter = book.sections[each.section], each.cutter
     return [
         section.name,
         section.feeder,
@@ -50,8 +50,8 @@ def interruption_values(book: Book, each: Interruption, refs: dict[int, str]) ->
         each.customer_seconds,
         cutter.number if cutter else "",
         book.devices[cutter.device].name if cutter else "",
-        each.run.cause,
-        book.causes.get(each.run.cause, ""),
+        each.cause,
+        book.causes.get(each.cause, ""),
         refs[cutter.number] if cutter else "",
         yes_if(book.is_marked(each.since)),
     ]

@@ -9,8 +9,8 @@ from typing import TypeVar
 from outage_tools.compare import Checked
 from outage_tools.counts import SETS, decimal_text, fraction_text, quotient
 from outage_tools.forms import Value
+from outage_tools.interruptions import Interruption
 from outage_tools.rows import Block, Book
-from outage_tools.sweep import Interruption
 
 Key = TypeVar("Key", bound=Hashable)
 

@@ -2,7 +2,7 @@
 
 from collections import defaultdict
 from collections.abc import Iterable
-from dataclasses import dataclass, replace
+from dataclasses import dataclass
 from fractions import Fraction
 from typing import Literal
 
@@ -19,10 +19,10 @@ from outage_tools.counts import (
 )
 from outage_tools.errors import Differs
 from outage_tools.forms import Figures, Value
+from outage_tools.interruptions import Interruption
 from outage_tools.lists import Groups, groups_in_order, told_missing
-from outage_tools.rates import both, counted, quotient_columns, tallies_of_sets
+from outage_tools.rates import both, counted, quotient_columns, served_by
 from outage_tools.rows import CAUSE
-from outage_tools.sweep import Run, blocks_by_section
 
 INDICES = ("SAIFI", "SAIDI", "CAIDI", "CAIFI", "ASAI", *(f"CEMI-{n}" for n in range(1, 11)))
 
@@ -54,20 +54,19 @@ class Parts:
     """What a group is counted from, section by section."""
 
     def __init__(self, found: Checked):
-        self.book = found.book
-        self.blocks = blocks_by_section(found.book)
-        self.runs: dict[int, list[Run]] = defaultdict(list)
-        for run in found.runs:
-            self.runs[run.section].append(run)
-        self.tallies = tallies_of_sets(found, lambda each: each.run.section)
+        self.length = found.book.period.length
+        self.served = served_by(found.book, lambda block: block.section)
+        self.interruptions: dict[tuple[str, int], list[Interruption]] = defaultdict(list)
+        for which in SETS:
+            for each in counted(found, which):
+                self.interruptions[which, each.section].append(each)
 
     def counted(self, name: str, which: str, nodes: list[int]) -> Counted:
         """A group, counted over the customers of its sections alone."""
-        blocks = tuple(block for node in nodes for block in self.blocks.get(node, ()))
-        part = replace(self.book, blocks=blocks)
-        seconds = sum(self.tallies[which][node].customer_seconds for node in nodes if node in self.tallies[which])
-        counts = counts_of(part, [run for node in nodes for run in self.runs[node]], which == "unmarked")
-        return Counted("group", name, which, len(nodes), part.served_seconds(), seconds, counts, part.period.length)
+        interruptions = [each for node in nodes for each in self.interruptions.get((which, node), ())]
+        served = sum(self.served.get(node, 0) for node in nodes)
+        seconds = sum(each.customer_seconds for each in interruptions)
+        return Counted("group", name, which, len(nodes), served, seconds, counts_of(interruptions), self.length)
 
 
 def sum_of(groups: Iterable[Counted], which: str, length: int) -> Counted:

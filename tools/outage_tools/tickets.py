@@ -3,9 +3,10 @@
 An interruption belongs to the ticket of the entry that cut its section off (its cutter). Where there is no such entry, or it is
 of no ticket, it belongs to the ticket of the entry that ended it: the last one of the second at which it was over that brought
 supply back to the section. Where that one is of no ticket either, it belongs to none. So each interruption counts once.
+The interruptions are the program's; which entry began and ended them, of which ticket, is told by a walk of the tools' own.
 """
 
-from bisect import bisect_left
+from bisect import bisect_left, bisect_right
 from collections import defaultdict
 from collections.abc import Iterable
 from dataclasses import dataclass, field
@@ -14,9 +15,10 @@ from outage_tools.commands import read_commands
 from outage_tools.compare import Checked
 from outage_tools.errors import BookError
 from outage_tools.feeding import Feeding
+from outage_tools.interruptions import LONGEST_MOMENTARY, blocks_by_section
 from outage_tools.references import switchings_of
 from outage_tools.rows import Block, Book, Entry
-from outage_tools.sweep import LONGEST_MOMENTARY, Run, Supply, blocks_by_section, bounds_of_lives
+from outage_tools.supply import Run, Supply, bounds_of_lives, sweep
 
 
 @dataclass(frozen=True)
@@ -156,13 +158,11 @@ def tickets_of(found: Checked, prefix: str = "OMS-", known: Iterable[str] = ()) 
     for number, name in of_entry.items():
         tickets.by_name.setdefault(name, Ticket(name)).entries.append(book.entries[number - 1])
     enders = enders_of(book)
-    for run in found.runs:
-        ender = enders.get((run.section, run.until))
-        owner = tickets.owner(run, ender)
-        tickets.runs[run.section].append((run, owner))
+    for run in sweep(book):
+        tickets.runs[run.section].append((run, tickets.owner(run, enders.get((run.section, run.until)))))
+    for each in found.interruptions:
+        runs = tickets.runs[each.section]
+        run, owner = runs[bisect_right(runs, each.since, key=lambda pair: pair[0].since) - 1]
         parts = tickets.of_none if owner is None else tickets.by_name[owner].parts
-        for block in blocks.get(run.section, ()):
-            since, until = max(run.since, block.since), min(run.until, block.until)
-            if since < until:
-                parts.append(Part(run, block, since, until, ender))
+        parts.append(Part(run, each.block, each.since, each.until, enders.get((run.section, run.until))))
     return tickets

@@ -27,6 +27,7 @@ from outage_tools.copies import copy_of
 from outage_tools.counts import SETS
 from outage_tools.days import unmarked_seconds
 from outage_tools.errors import BookError, Differs
+from outage_tools.interruptions import joined
 from outage_tools.parallel import over_books
 from outage_tools.rates import counted
 from outage_tools.rows import CAUSE, DAY, FEEDER, Book
@@ -184,12 +185,12 @@ def served_month_rows(book: Book) -> Rows:
 
 def interruption_rows(found: Checked) -> Rows:
     book = found.book
-    for number, each in enumerate(found.interruptions, 1):
-        cutter = each.run.cutter
+    for number, each in enumerate(joined(found.interruptions), 1):
+        cutter = each.cutter
         yield (
             number,
-            each.run.section,
-            each.run.cause,
+            each.section,
+            each.cause,
             book.devices[cutter.device].name if cutter else None,
             each.since,
             each.until,
@@ -308,7 +309,9 @@ def load_book(path: str, table: str | None, program: str, dsn: str) -> str:
                 return
             write_book(connection, period_id, key, found)
             compare_views(connection, key, found)
-            said.append(f"{key.district}: loaded, {key.commands} commands, {len(found.interruptions)} interruptions")
+            said.append(
+                f"{key.district}: loaded, {key.commands} commands, {sum(1 for _ in joined(found.interruptions))} interruptions"
+            )
 
         in_database(dsn, work)
     return said[0]

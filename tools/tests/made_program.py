@@ -1,8 +1,9 @@
-"""Stands in for the program where a test is of what is around it: `init`, `import`, `table` and `audit`, by the oracle's model.
+"""Stands in for the program where a test is of what is around it: `init`, `import`, `table`, `interruptions` and `audit`, by the
+oracle's model.
 
     python3 tools/tests/made_program.py import --book BOOK TEXT
 
-The book is one of made_books.py; its period and its annual table are kept next to it, in BOOK.period and BOOK.table.
+The book is one of made_books.py; its period is kept next to it, in BOOK.period.
 """
 
 import contextlib
@@ -14,6 +15,12 @@ import sys
 import tempfile
 from pathlib import Path
 
+# The oracle's modules import one another by their names.
+sys.path[0] = str(Path(__file__).resolve().parents[2] / "oracle")
+
+from from_file import book_of  # noqa: E402
+from interruptions import interruption_lines  # noqa: E402
+
 MADE_BOOKS = Path(__file__).with_name("made_books.py")
 HEADER = "kind,ref,f1,f2,f3,f4,f5,f6\n"
 
@@ -23,7 +30,7 @@ def kept(book: Path, what: str) -> Path:
 
 
 def make(book: Path, text: str) -> None:
-    """The book of a text, and its table; an empty log is left too, as the program leaves one."""
+    """The book of a text; an empty log is left too, as the program leaves one."""
     with tempfile.TemporaryDirectory() as name:
         folder = Path(name)
         (folder / "rows").write_text(text)
@@ -32,7 +39,6 @@ def make(book: Path, text: str) -> None:
         with contextlib.redirect_stdout(io.StringIO()):
             runpy.run_path(str(MADE_BOOKS), run_name="__main__")
         shutil.copyfile(folder / "rows.db", book)
-        shutil.copyfile(folder / "rows.table.txt", kept(book, "table"))
     book.with_name(f"{book.name}-wal").write_bytes(b"")
 
 
@@ -48,7 +54,11 @@ def main() -> None:
         with contextlib.closing(sqlite3.connect(book)) as database:
             print(f"added {database.execute('SELECT count(*) FROM cmd').fetchone()[0]} again 0")
     elif job == "table":
-        print(kept(book, "table").read_text(), end="")
+        print("\n".join(book_of(book).table_lines()))
+    elif job == "interruptions":
+        rows = [*interruption_lines(book_of(book))]
+        Path(words[0]).write_text("".join(f"{row}\n" for row in rows))
+        print(f"rows {len(rows) - 1}")
     else:
         with contextlib.closing(sqlite3.connect(book)) as database:
             print(f"audit {database.execute('PRAGMA integrity_check').fetchone()[0]}")

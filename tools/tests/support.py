@@ -109,6 +109,18 @@ def opened(made: Made) -> Checked:
     return stack.enter_context(open_book(str(made.book), str(made.table)))
 
 
+def stand_in() -> Path:
+    """A folder in which made_program.py is the program."""
+    path = folder() / "bin" / "outagebook"
+    path.parent.mkdir()
+    path.write_text(f'#!/bin/sh\nexec "{sys.executable}" "{TESTS}/made_program.py" "$@"\n')
+    path.chmod(0o755)
+    return path.parent
+
+
+os.environ["PATH"] = f"{stand_in()}:{os.environ['PATH']}"  # tools run it where a test names no program
+
+
 def fortnight() -> Made:
     return books()[0]
 

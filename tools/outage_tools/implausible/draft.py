@@ -12,11 +12,12 @@ from functools import cached_property
 
 from outage_tools.counts import Counts, counts_of
 from outage_tools.feeding import Feeding
+from outage_tools.interruptions import Interruption
 from outage_tools.normal_state import SOURCE
 from outage_tools.oms.known import Known, Service
 from outage_tools.oms.steps import Step
 from outage_tools.rows import GRID, Block, Book, Device, Entry, Period, Section
-from outage_tools.sweep import Interruption, Run, interruptions_of, sweep
+from outage_tools.supply import Run, interruptions_of, sweep
 
 
 def second_of(text: str) -> int | None:
@@ -150,15 +151,15 @@ class Draft:
 
     @cached_property
     def counts(self) -> Counts:
-        return counts_of(self.book, self.runs, unmarked=False)
+        return counts_of(self.interruptions)
 
     @cached_property
     def of_cutter(self) -> dict[int, list[Interruption]]:
         """The interruptions by the entry that cut their section off."""
         found: dict[int, list[Interruption]] = defaultdict(list)
         for each in self.interruptions:
-            if each.run.cutter is not None:
-                found[each.run.cutter.number].append(each)
+            if each.cutter is not None:
+                found[each.cutter.number].append(each)
         return found
 
     @cached_property

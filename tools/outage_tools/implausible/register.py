@@ -10,7 +10,7 @@ from outage_tools.implausible.draft import total_of
 from outage_tools.implausible.lines import MOST_NAMED, LastBook, Line, Look, percent
 from outage_tools.oms.known import Service
 from outage_tools.rows import GRID, Block
-from outage_tools.sweep import interruptions_of, sweep
+from outage_tools.supply import interruptions_of, sweep
 
 FEWEST_BEGUN = 10  # services that begin, where none ends
 FEWEST_CHANGED = 5  # services that begin, or end

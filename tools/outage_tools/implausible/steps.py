@@ -16,9 +16,10 @@ from outage_tools.implausible.lines import (
     places_of,
     step_text,
 )
+from outage_tools.interruptions import LONGEST_MOMENTARY
 from outage_tools.oms.steps import Step
 from outage_tools.rows import Entry
-from outage_tools.sweep import LONGEST_MOMENTARY, interruptions_of, sweep
+from outage_tools.supply import interruptions_of, sweep
 
 
 def by_weight(look: Look, steps: list[Step]) -> list[Step]:

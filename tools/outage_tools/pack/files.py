@@ -1,7 +1,6 @@
 """The files of a pack: those that the program prints of a book, and those that the tools make of it."""
 
 import shutil
-import subprocess
 import tempfile
 from collections.abc import Iterator
 from contextlib import contextmanager
@@ -11,11 +10,11 @@ from typing import Any
 
 from outage_tools.commands import read_commands, write_rows
 from outage_tools.compare import Checked
-from outage_tools.errors import BookError
 from outage_tools.filings import TITLES, filing
 from outage_tools.forms import write_csv_to
 from outage_tools.interruption_rows import interruption_rows
 from outage_tools.lists import read_cause_groups, read_names, read_section_groups
+from outage_tools.program import answer_of
 from outage_tools.report import Asked, page
 from outage_tools.versions import Made
 from outage_tools.workbook import Wanted, sheets_of, write_workbook
@@ -51,23 +50,6 @@ def list_file(folder: Path, name: str) -> Path:
 
 
 # By the program.
-
-
-def run_program(program: str, *words: object) -> subprocess.CompletedProcess[str]:
-    """The program's answer."""
-    command = [program, *map(str, words)]
-    try:
-        return subprocess.run(command, capture_output=True, text=True, encoding="utf-8", check=False)
-    except OSError as error:
-        raise BookError(f"the program {program} can't be run ({error.strerror}): --program PATH names it") from None
-
-
-def answer_of(program: str, *words: object) -> str:
-    """What the program prints; an answer that isn't well is an error."""
-    done = run_program(program, *words)
-    if done.returncode:
-        raise BookError(f"{program} {words[0]} ended with status {done.returncode}: {done.stderr.strip()}")
-    return done.stdout
 
 
 @contextmanager

@@ -29,12 +29,12 @@ from outage_tools.pack.files import (
     Order,
     list_file,
     own_copy,
-    run_program,
     write_program_files,
     write_tool_files,
 )
 from outage_tools.pack.manifest import NAME, Manifest, packed
 from outage_tools.placing import check_free, new_file
+from outage_tools.program import run_program
 from outage_tools.versions import Made, made_by, sum_of
 from outage_tools.workbook.command import read_least
 from outage_tools.workbook.writing import version_of_writer

@@ -30,16 +30,15 @@ from outage_tools.pack.files import (
     TABLE,
     WORKBOOK,
     Order,
-    answer_of,
     list_file,
     own_copy,
-    run_program,
     tool_files,
     write_program_files,
     write_tool_files,
 )
 from outage_tools.pack.manifest import NAME, Changed, Manifest, differing, read_manifest
 from outage_tools.pack.shown import compare_shown, report_shows, rows_differ, words_of_table, workbook_differs
+from outage_tools.program import answer_of, run_program
 from outage_tools.versions import Made, made_by, sum_of
 from outage_tools.workbook.writing import version_of_writer
 

@@ -6,6 +6,7 @@ from outage_tools.compare import Checked
 from outage_tools.counts import decimal_text, quotient
 from outage_tools.customers import Served, served_customers
 from outage_tools.events import Event, Rule, events_of, told_unfit
+from outage_tools.interruptions import Interruption, joined
 from outage_tools.lists import Groups, Names, told_missing
 from outage_tools.outages import references
 from outage_tools.report.pictures import feeder_text
@@ -22,9 +23,7 @@ from outage_tools.report.pieces import (
     signed,
     table,
 )
-from outage_tools.rows import Block
 from outage_tools.section_groups import Counted, counted_groups, sections_without_group
-from outage_tools.sweep import Interruption, blocks_by_section
 from outage_tools.work import Work, own_sum, second_of, works_of
 
 WORST = 25  # rows of a list of what is worst
@@ -74,14 +73,14 @@ EVENT_HEADS = [
 ]
 
 
-def event_row(found: Checked, event: Event, blocks: dict[int, list[Block]]) -> TableRow:
+def event_row(found: Checked, event: Event) -> TableRow:
     book = found.book
     cells = [
         event.name,
         book.period.zone.short_text(event.first),
         book.period.zone.short_text(event.last),
         len(event.steps),
-        number(event.customers(blocks)),
+        number(event.customers),
         decimal(event.minutes),
         ", ".join(map(str, event.feeders(book))),
         event.causes(book),
@@ -91,8 +90,8 @@ def event_row(found: Checked, event: Event, blocks: dict[int, list[Block]]) -> T
 
 def event_part(found: Checked, rule: Rule) -> Part:
     """The events with the most customer-minutes, a ticket as one."""
-    events, blocks = events_of(found, rule), blocks_by_section(found.book)
-    rows = [event_row(found, event, blocks) for event in events[:WORST]]
+    events = events_of(found, rule)
+    rows = [event_row(found, event) for event in events[:WORST]]
     content = f"""
 <p>{of_all(len(rows), len(events), "events")}, those with the most customer-minutes first: all interruptions that a ticket's
 switchings began, each customer counted once. Those that begin on marked days are set apart at the left.
@@ -147,12 +146,12 @@ WORST_HEADS = [
 
 def rank(each: Interruption) -> tuple[int, int, int]:
     """By the most customer-seconds, then by the first second."""
-    return -each.customer_seconds, each.since, each.run.section
+    return -each.customer_seconds, each.since, each.section
 
 
 def worst_row(found: Checked, each: Interruption, refs: dict[int, str], names: Names) -> TableRow:
-    book, cutter = found.book, each.run.cutter
-    section = book.sections[each.run.section]
+    book, cutter = found.book, each.cutter
+    section = book.sections[each.section]
     cells = [
         section.name,
         feeder_text(section.feeder, names),
@@ -160,7 +159,7 @@ def worst_row(found: Checked, each: Interruption, refs: dict[int, str], names: N
         duration(each.seconds),
         number(each.customers),
         number(each.customer_seconds),
-        book.causes.get(each.run.cause, ""),
+        book.causes.get(each.cause, ""),
         refs[cutter.number] if cutter else "",
     ]
     return TableRow(cells, book.is_marked(each.since))
@@ -168,10 +167,10 @@ def worst_row(found: Checked, each: Interruption, refs: dict[int, str], names: N
 
 def worst_part(found: Checked, names: Names) -> Part:
     """The interruptions with the most customer-seconds."""
-    refs = references(found)
-    rows = [worst_row(found, each, refs, names) for each in sorted(found.interruptions, key=rank)[:WORST]]
+    refs, interruptions = references(found), sorted(joined(found.interruptions), key=rank)
+    rows = [worst_row(found, each, refs, names) for each in interruptions[:WORST]]
     content = f"""
-<p>{of_all(len(rows), len(found.interruptions), "interruptions")}, those with the most customer-seconds first, customers of one
+<p>{of_all(len(rows), len(interruptions), "interruptions")}, those with the most customer-seconds first, customers of one
 section with the same interruption together; marked days are set apart at the left. The reference is that of the switching
 that cut them off.</p>
 {table(WORST_HEADS, rows)}"""

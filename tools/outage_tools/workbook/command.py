@@ -59,7 +59,7 @@ def wanted_by(found: Checked, args: Namespace, earlier: Checked | None) -> Wante
         section_groups=read_section_groups(args.by, book) if args.by else None,
         rule=args.ticket,
         hours=args.hours or further.HOURS,
-        loads=further.loads_of(args.kva, book, found.database) if args.kva else None,
+        loads=further.loads_of(args.kva, found) if args.kva else None,
         least=args.above,
         filings=tuple(dict.fromkeys(args.filing)),
         earlier=earlier,

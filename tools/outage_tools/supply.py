@@ -1,13 +1,13 @@
-"""One plain sweep over the period: in which intervals which sections and customers aren't supplied."""
+"""Who is supplied as devices are switched, by plain walks: for books that the program doesn't have, and to tell which
+entry brought supply back. No figure of a book comes from here.
+"""
 
 from collections import defaultdict
 from collections.abc import Iterable
 from dataclasses import dataclass
-from itertools import groupby
 
-from outage_tools.rows import GRID, Block, Book, Device, Entry
-
-LONGEST_MOMENTARY = 300  # seconds: five minutes, by IEEE 1366
+from outage_tools.interruptions import Interruption, blocks_by_section, order
+from outage_tools.rows import GRID, Book, Device, Entry
 
 
 @dataclass(frozen=True)
@@ -18,34 +18,6 @@ class Run:
     since: int
     until: int
     cutter: Entry | None
-
-    @property
-    def cause(self) -> int:
-        """The cause's code: 0 where no entry cut the section off."""
-        return self.cutter.cause if self.cutter else 0
-
-
-@dataclass(frozen=True)
-class Interruption:
-    """The part of a run that falls into the service of some customers, who all have it."""
-
-    run: Run
-    since: int
-    until: int
-    customers: int
-
-    @property
-    def seconds(self) -> int:
-        """Its duration."""
-        return self.until - self.since
-
-    @property
-    def customer_seconds(self) -> int:
-        return self.customers * self.seconds
-
-    @property
-    def is_sustained(self) -> bool:
-        return self.seconds > LONGEST_MOMENTARY
 
 
 class Supply:
@@ -132,20 +104,13 @@ def sweep(book: Book) -> list[Run]:
     return sorted(runs, key=lambda run: (run.since, run.section))
 
 
-def blocks_by_section(book: Book) -> dict[int, list[Block]]:
-    """The blocks of each section."""
-    return {section: list(blocks) for section, blocks in groupby(book.blocks, key=lambda block: block.section)}
-
-
 def interruptions_of(book: Book, runs: Iterable[Run]) -> list[Interruption]:
-    """The interruptions, run by run: customers who have the same one are counted together."""
+    """The parts of runs that fall into the services of customers."""
     blocks = blocks_by_section(book)
     found = []
     for run in runs:
-        customers: dict[tuple[int, int], int] = defaultdict(int)
         for block in blocks.get(run.section, ()):
-            part = max(run.since, block.since), min(run.until, block.until)
-            if part[0] < part[1]:
-                customers[part] += block.customers
-        found += [Interruption(run, *part, count) for part, count in sorted(customers.items())]
-    return found
+            since, until = max(run.since, block.since), min(run.until, block.until)
+            if since < until:
+                found.append(Interruption(block, since, until, run.cutter.cause if run.cutter else 0, run.cutter))
+    return sorted(found, key=order)
