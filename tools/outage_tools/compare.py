@@ -1,11 +1,12 @@
 """A book with the program's interruptions, compared with its annual table before any tool answers.
 
 A book is read from a copy (copies.py). The program prints the copy's annual table and lists its interruptions. What they
-add up to is compared with each figure of the table, and the amounts of the table `posting` too. The first that differs is
-an error, and nothing is answered.
+add up to, and the amounts of the days in the table `posting`, are compared with each line of the annual table. The first
+that differs is an error, and nothing is answered.
 """
 
 import sqlite3
+from collections import Counter
 from collections.abc import Iterable, Iterator
 from contextlib import closing, contextmanager
 from dataclasses import dataclass
@@ -16,7 +17,7 @@ from outage_tools.counts import SETS, Counts, counts_of, indices_of, quotient_te
 from outage_tools.errors import BookError, Differs
 from outage_tools.interruptions import Interruption, read_interruptions, rows_file, rows_of_program
 from outage_tools.program import answer_of
-from outage_tools.rows import CAUSE, DAY, FEEDER, Book, read_book
+from outage_tools.rows import DAY, Book, read_book
 
 
 @dataclass(frozen=True)
@@ -37,19 +38,22 @@ class Checked:
 
 
 def figures_of(book: Book, interruptions: Iterable[Interruption], counts: dict[str, Counts]) -> dict[str, str]:
-    """What the annual table says, line by line, of a book's interruptions and postings."""
-    period, served, amounts = book.period, book.served_seconds(), book.postings
-    total = sum(each.customer_seconds for each in interruptions)
+    """What the annual table says, line by line, of a book's interruptions, and of its postings by day."""
+    period, served = book.period, book.served_seconds()
+    causes, feeders = Counter[int](), Counter[int]()
+    for each in interruptions:
+        causes[each.cause] += each.customer_seconds
+        feeders[book.sections[each.section].feeder] += each.customer_seconds
     figures = {
         "the heading": f"{period.days[0]} days {len(period.days)} zone {period.zone.text}",
-        "P, S and W": f"{period.length} {served} {total}",
+        "P, S and W": f"{period.length} {served} {causes.total()}",
     }
     for code, name in sorted(book.causes.items()):
-        figures[f"cause {code} {name}"] = str(amounts[CAUSE, code])
+        figures[f"cause {code} {name}"] = str(causes[code])
     for feeder in sorted({section.feeder for section in book.sections.values()}):
-        figures[f"feeder {feeder}"] = str(amounts[FEEDER, feeder])
+        figures[f"feeder {feeder}"] = str(feeders[feeder])
     for number, day in enumerate(period.days):
-        amount = amounts[DAY, number]
+        amount = book.postings[DAY, number]
         if amount or number in book.marks:
             figures[f"day {day}"] = f"{amount}{' marked' if number in book.marks else ''}"
     for name in SETS:

@@ -98,9 +98,11 @@ def read_interruptions(rows: Iterable[list[str]], book: Book) -> list[Interrupti
         customers[place] += int(count)
         about[place] = causes[cause], book.entries[int(entry) - 1] if entry else None
     blocks = {(block.section, block.since, block.until): block for block in book.blocks}
-    found = [Interruption(blocks[place[:3]], place[3], place[4], *about[place]) for place in customers]
-    for each, count_of_rows in zip(found, customers.values()):
-        if each.customers != count_of_rows:
-            name = book.sections[each.section].name
-            raise Differs(f"customers of {name} from {each.since} on", each.customers, count_of_rows)
+    found = []
+    for place, count_of_rows in customers.items():
+        block = blocks.get(place[:3])
+        if block is None or block.customers != count_of_rows:
+            name = book.sections[place[0]].name
+            raise Differs(f"customers of {name} at {place[3]}", block and block.customers, count_of_rows)
+        found.append(Interruption(block, place[3], place[4], *about[place]))
     return sorted(found, key=order)

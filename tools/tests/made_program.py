@@ -6,13 +6,9 @@ oracle's model.
 The book is one of made_books.py; its period is kept next to it, in BOOK.period.
 """
 
-import contextlib
-import io
-import runpy
-import shutil
 import sqlite3
 import sys
-import tempfile
+from contextlib import closing, redirect_stdout
 from pathlib import Path
 
 # The oracle's modules import one another by their names.
@@ -31,12 +27,17 @@ def kept(book: Path, what: str) -> Path:
 
 def make(book: Path, text: str) -> None:
     """The book of a text; an empty log is left too, as the program leaves one."""
+    import io
+    import runpy
+    import shutil
+    import tempfile
+
     with tempfile.TemporaryDirectory() as name:
         folder = Path(name)
         (folder / "rows").write_text(text)
         (folder / "list").write_text(f"{folder}/rows {kept(book, 'period').read_text()}\n")
         sys.argv = [str(MADE_BOOKS), str(folder), "--list", str(folder / "list"), "--without-moves"]
-        with contextlib.redirect_stdout(io.StringIO()):
+        with redirect_stdout(io.StringIO()):
             runpy.run_path(str(MADE_BOOKS), run_name="__main__")
         shutil.copyfile(folder / "rows.db", book)
     book.with_name(f"{book.name}-wal").write_bytes(b"")
@@ -51,7 +52,7 @@ def main() -> None:
         print("created")
     elif job == "import":
         make(book, Path(words[0]).read_text())
-        with contextlib.closing(sqlite3.connect(book)) as database:
+        with closing(sqlite3.connect(book)) as database:
             print(f"added {database.execute('SELECT count(*) FROM cmd').fetchone()[0]} again 0")
     elif job == "table":
         print("\n".join(book_of(book).table_lines()))
@@ -60,7 +61,7 @@ def main() -> None:
         Path(words[0]).write_text("".join(f"{row}\n" for row in rows))
         print(f"rows {len(rows) - 1}")
     else:
-        with contextlib.closing(sqlite3.connect(book)) as database:
+        with closing(sqlite3.connect(book)) as database:
             print(f"audit {database.execute('PRAGMA integrity_check').fetchone()[0]}")
 
 

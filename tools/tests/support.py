@@ -113,7 +113,7 @@ def stand_in() -> Path:
     """A folder in which made_program.py is the program."""
     path = folder() / "bin" / "outagebook"
     path.parent.mkdir()
-    path.write_text(f'#!/bin/sh\nexec "{sys.executable}" "{TESTS}/made_program.py" "$@"\n')
+    path.write_text(f'#!/bin/sh\nexec "{sys.executable}" -ES "{TESTS}/made_program.py" "$@"\n')
     path.chmod(0o755)
     return path.parent
 

@@ -1,5 +1,6 @@
 """Faults planted one at a time in the package's files: its own comparison catches each, over the made books."""
 
+import csv
 import itertools
 import shutil
 import sqlite3
@@ -7,48 +8,33 @@ import sys
 import unittest
 from collections.abc import Iterator
 from contextlib import closing, contextmanager
+from functools import lru_cache
 from importlib import import_module
 from pathlib import Path
 
 from tests import support
 
-FILES = ["rows.py", "sweep.py", "counts.py", "compare.py"]
+FILES = ["rows.py", "interruptions.py", "counts.py", "compare.py"]
 FAULTS = {
-    "a sustained interruption of 300 seconds": ("if length > LONGEST_MOMENTARY]", "if length >= LONGEST_MOMENTARY]"),
-    "a run that ends a second late": ("going[section][0], moment, going", "going[section][0], moment + 1, going"),
-    "a run that begins a second late": ("going[section] = moment, cutters", "going[section] = moment + 1, cutters"),
-    "a block that isn't cut at its service": (
-        "min(run.until, block.until)\n            if part",
-        "run.until\n            if part",
+    "a sustained interruption of 300 seconds": (
+        "self.seconds > LONGEST_MOMENTARY",
+        "self.seconds >= LONGEST_MOMENTARY",
     ),
-    "a block counted as one customer": ("customers[part] += block.customers", "customers[part] += 1"),
+    "an end that is taken a second late": (
+        "second_of(since), second_of(until)",
+        "second_of(since), second_of(until) + 1",
+    ),
+    "a beginning that is taken a second late": (
+        "second_of(since), second_of(until)",
+        "second_of(since) + 1, second_of(until)",
+    ),
+    "customers of equal service counted once": ("customers[place] += int(count)", "customers[place] = int(count)"),
+    "a cause that isn't told": ("about[place] = causes[cause]", "about[place] = 0"),
+    "a section taken for another": ("place = nodes[section]", "place = max(nodes.values())"),
     "a mark that is looked for a day late": ("self.period.day_of(second) in", "self.period.day_of(second) + 1 in"),
-    "a mark that is never looked for": ('name == "unmarked") for name', "False) for name"),
-    "the cause of the first opening of a second": (
-        "cutters.update((node, entry) for node in before - supplied)",
-        "[cutters.setdefault(node, entry) for node in before - supplied]",
-    ),
-    "a cause that isn't told": ("return self.cutter.cause if self.cutter else 0", "return 0"),
-    "a withdrawn entry that acts": ("if entry.is_kept:\n            entries_at", "if True:\n            entries_at"),
-    "a day that takes the rest of an interruption": ("end = min(until, self.bounds[day + 1])", "end = until"),
-    "a feeder taken for another": ("amounts[FEEDER, book.sections[each.run.section].feeder]", "amounts[FEEDER, 1]"),
-    "the entries of a second in another order": ("FROM entry ORDER BY id", "FROM entry ORDER BY id DESC"),
-    "lives that are never looked at": ("if version == 2:", "if False:"),
-    "a life that holds the second of its end": ("or second < self.until)", "or second <= self.until)"),
-    "a life that begins a second late": ("return self.since <= second and", "return self.since < second and"),
-    "lives that act after the entries of their second": (
-        "if moment in lives and supply.come_to(moment):",
-        "if moment in lives and not entries_at.get(moment) and supply.come_to(moment):",
-    ),
-    "an entry that acts outside its device's life": (
-        "return self.set_position(device, entry.closes and device.is_alive(second))",
-        "return self.set_position(device, entry.closes)",
-    ),
-    "an entry outside its device's life that is forgotten": (
-        "        self.switched[entry.device] = entry.closes\n",
-        "        if device.is_alive(second):\n            self.switched[entry.device] = entry.closes\n",
-    ),
-    "a tenth interruption that isn't counted": ("range(min(10, len(sustained)))", "range(min(9, len(sustained)))"),
+    "a mark that is never looked for": ("if not book.is_marked(each.since)]", "if True]"),
+    "a tenth interruption that isn't counted": ("range(min(10, number))", "range(min(9, number))"),
+    "momentary ones among the sustained": ("if each.is_sustained:", "if True:"),
 }
 
 
@@ -84,6 +70,12 @@ def imported_from(folder: Path) -> Iterator[None]:
         sys.modules.update(own)
 
 
+@lru_cache(maxsize=None)
+def listed(made: support.Made) -> list[list[str]]:
+    """The rows of a made book's interruptions."""
+    return [*csv.reader(support.opened(made).rows_file.read_text().splitlines())][1:]
+
+
 number = itertools.count()
 
 
@@ -96,7 +88,8 @@ def catching(old: str, new: str) -> Iterator[str]:
     for made in support.books():
         with closing(sqlite3.connect(f"file:{made.book}?mode=ro", uri=True)) as database:
             try:
-                compare.checked(rows.read_book(database), made.table.read_text().splitlines(), database)
+                lines = made.table.read_text().splitlines()
+                compare.checked(rows.read_book(database), listed(made), lines, database, made.book, "")
             except errors.Differs:
                 yield made.name
 

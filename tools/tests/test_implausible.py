@@ -16,7 +16,7 @@ from unittest import mock
 from outage_tools import check
 from outage_tools.feeding import Feeding
 from outage_tools.implausible.limits import OPTIONS, share
-from outage_tools.sweep import Supply
+from outage_tools.supply import Supply
 from tests import made_utility, program_books, support
 from tests.exports import Done, book_words
 from tests.made_exports import Year

@@ -6,7 +6,7 @@ from fractions import Fraction
 from pathlib import Path
 
 from outage_tools import figures
-from outage_tools.compare import Checked
+from outage_tools.compare import Checked, open_book
 from outage_tools.counts import SETS, fraction_text
 from outage_tools.errors import BookError
 from outage_tools.indices import Loads, computed, loads_of, meaning_of, read_hours
@@ -19,14 +19,14 @@ HOURS = [Fraction(1, 2), Fraction(1), Fraction(8), Fraction(24)]
 
 def lengths_of_customers(found: Checked, unmarked: bool) -> list[list[int]]:
     """The seconds of each interruption of each customer, found one customer after another."""
-    runs = defaultdict(list)
-    for run in found.runs:
-        runs[run.section].append(run)
-    customers = []
-    for section, since, until in found.database.execute("SELECT section, since, until FROM customer"):
-        parts = [(max(run.since, since), min(run.until, until or run.until)) for run in runs[section]]
-        customers.append([e - b for b, e in parts if b < e and not (unmarked and found.book.is_marked(b))])
-    return customers
+    period, had = found.book.period, defaultdict(list)
+    for each in found.interruptions:
+        if not (unmarked and found.book.is_marked(each.since)):
+            had[each.block.section, each.block.since, each.block.until].append(each.seconds)
+    rows = found.database.execute("SELECT section, since, until FROM customer")
+    return [
+        had[section, max(since, period.first), min(until or period.end, period.end)] for section, since, until in rows
+    ]
 
 
 def share(count: int, found: Checked) -> Fraction | None:
@@ -67,7 +67,7 @@ class MadeBooks(unittest.TestCase):
             found = support.opened(made)
             numbers = [number for number, in found.database.execute("SELECT id FROM customer")]
             file.write_text("customer,kva\n" + "".join(f"{number},2.5\n" for number in numbers))
-            indices = computed(found, HOURS, loads_of(str(file), found.book, found.database))
+            indices = computed(found, HOURS, loads_of(str(file), found))
             rows = figures.indices(found).rows
             for name in SETS:
                 values = {row[0]: row[2] for row in rows if row[1] == name}
@@ -111,12 +111,25 @@ class Worked(unittest.TestCase):
     def kva(self, text: str) -> Loads:
         file = many_books.folder() / "kva.csv"
         file.write_text(text)
-        return loads_of(str(file), opened(self.book).book, opened(self.book).database)
+        return loads_of(str(file), opened(self.book))
 
     def test_connected_load_by_hand(self) -> None:
         """100 kVA on S1 and 300 on S2 for an hour: each kVA once, 60 minutes; the five minutes are momentary."""
         loads = self.kva("section,kva\nN-S1,100\nN-S2,300\n")
         self.assertEqual((self.of(loads)["ASIFI"], self.of(loads)["ASIDI"]), (Fraction(1), Fraction(60)))
+
+    def test_load_where_nobody_is_in_service_all_the_time(self) -> None:
+        """100 kVA on a section without customers behind S2, and 100 on one whose customer comes between the two outages: each
+        kVA once, 60 minutes."""
+        more = ["section,N4,N-S3,1,,,,", "device,D4,N-B3,N-S2,N-S3,closed,,", "section,N5,N-S4,1,,,,"]
+        more += ["device,D5,N-B4,N-S1,N-S4,closed,,", "connect,K4,9,N-S4,2025-03-26T00:00:00+01:00,,,"]
+        book = books_of("load-alone", {"north": [*district_rows("N", 1), *more]})["north"]
+        file = many_books.folder() / "kva.csv"
+        file.write_text("section,kva\nN-S1,100\nN-S2,300\nN-S3,100\nN-S4,100\n")
+        with open_book(str(book), str(table_of(book))) as found:
+            indices = computed(found, [], loads_of(str(file), found))
+        for name in SETS:
+            self.assertEqual((indices[name]["ASIFI"], indices[name]["ASIDI"]), (Fraction(1), Fraction(60)))
 
     def test_rows_of_others_are_told(self) -> None:
         self.assertIn("1 of its rows are of no section", self.kva("section,kva\nN-S1,1\nN-S2,0.5\nZ,9\n").about)

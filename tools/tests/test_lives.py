@@ -7,9 +7,9 @@ from collections import Counter
 from collections.abc import Iterable, Iterator, Sequence
 from datetime import date
 
-from outage_tools.counts import amounts_of, counts_of
-from outage_tools.rows import CAUSE, DAY, FEEDER, Block, Book, Device, Entry, Period, Section
-from outage_tools.sweep import Run, interruptions_of, sweep
+from outage_tools.counts import counts_of
+from outage_tools.rows import Block, Book, Device, Entry, Period, Section
+from outage_tools.supply import Run, interruptions_of, sweep
 from outage_tools.zone import Zone
 
 FIRST, END = 1_000, 1_060
@@ -129,30 +129,25 @@ class Lives(unittest.TestCase):
 
     def check_amounts(self, book: Book, wanted: Sequence[Wanted], runs: Sequence[Run]) -> None:
         """One for each second and each customer in service without supply."""
-        amounts: Counter[tuple[int, int]] = Counter()
+        amounts, found = Counter[int](), Counter[int]()
         for section, since, until, entry in wanted:
             for second in range(since, until):
-                customers = sum(
+                amounts[entry.cause if entry else 0] += sum(
                     block.customers
                     for block in book.blocks
                     if block.section == section and block.since <= second < block.until
                 )
-                amounts[CAUSE, entry.cause if entry else 0] += customers
-                amounts[FEEDER, book.sections[section].feeder] += customers
-                amounts[DAY, 0 if second < FIRST + 30 else 1] += customers
-        found = amounts_of(book, interruptions_of(book, runs))
-        self.assertEqual(
-            {key: amount for key, amount in found.items() if amount}, {k: a for k, a in amounts.items() if a}
-        )
+        for each in interruptions_of(book, runs):
+            found[each.cause] += each.customer_seconds
+        self.assertEqual(+found, +amounts)
 
     def check_counts(self, book: Book, wanted: Sequence[Wanted], runs: Sequence[Run]) -> None:
-        """All interruptions here are momentary: their number, and that of those that don't begin on the marked day."""
-        number = unmarked = 0
-        for block in book.blocks:
-            for section, since, until, _ in wanted:
-                begin = max(since, block.since)
-                if section == block.section and begin < min(until, block.until):
-                    number += block.customers
-                    unmarked += block.customers if not (book.marks and begin >= FIRST + 30) else 0
-        counts = [counts_of(book, runs, name) for name in (False, True)]
-        self.assertEqual([(each.momentary, each.sustained) for each in counts], [(number, 0), (unmarked, 0)])
+        """All interruptions here are momentary: their number."""
+        number = sum(
+            block.customers
+            for block in book.blocks
+            for section, since, until, _ in wanted
+            if section == block.section and max(since, block.since) < min(until, block.until)
+        )
+        counts = counts_of(interruptions_of(book, runs))
+        self.assertEqual((counts.momentary, counts.sustained), (number, 0))

@@ -316,7 +316,7 @@ class Made(unittest.TestCase):
         book, table = book_of("year-whole", first.text + "".join(f"{row}\n" for row in done.out.splitlines()[1:]))
         with open_book(str(book), str(table)) as found:
             counted = grid.interruptions()
-            of_book = by_customer(found, "year")
+            of_book = by_customer(found)
             self.assertEqual({n: each for n, each in of_book.items() if each != counted[n]}, {})
             self.assertEqual(of_book, counted)
             figures = grid.figures()

@@ -74,18 +74,14 @@ def book_words(name: str) -> tuple[str, str]:
     return str(made.book), str(made.table)
 
 
-def by_customer(found: Checked, name: str) -> dict[int, list[Interval]]:
+def by_customer(found: Checked) -> dict[int, list[Interval]]:
     """The interruptions of each customer, by the section and the service that the book has."""
-    runs: dict[int, list[Interval]] = defaultdict(list)
-    for each in found.runs:
-        runs[each.section].append((each.since, each.until))
+    period, had = found.book.period, defaultdict(list)
+    for each in found.interruptions:
+        had[each.block.section, each.block.since, each.block.until].append((each.since, each.until))
     rows = found.database.execute("SELECT id, section, since, until FROM customer")
     return {
-        number: [
-            part
-            for a, b in runs[section]
-            if (part := (max(a, since), b if until is None else min(b, until)))[0] < part[1]
-        ]
+        number: had[section, max(since, period.first), min(until or period.end, period.end)]
         for number, section, since, until in rows
     }
 
@@ -98,7 +94,7 @@ class Made(unittest.TestCase):
         found = cut_of(grid, name, tickets, *words)
         self.assertEqual(found.status, 0, found.err)
         with open_book(*book_words(name)) as book:
-            self.assertEqual(by_customer(book, name), grid.interruptions())
+            self.assertEqual(by_customer(book), grid.interruptions())
             figures = grid.figures()
             for index in ("SAIFI", "SAIDI", "CAIDI", "CAIFI"):
                 (line,) = (line for line in book.table if line.split()[:2] == [index, "all"])

@@ -18,7 +18,7 @@ from tests.many_books import books_of, district_rows, figures_of, parts_of, run,
 
 @lru_cache(maxsize=None)
 def district_in(book: Path) -> District:
-    return read_district(str(book), str(table_of(book)), "")
+    return read_district(str(book), str(table_of(book)), "outagebook")
 
 
 def sums_of(books: list[Path], own_numbers: bool = False) -> Sums:
@@ -59,7 +59,7 @@ class PartsOfANetwork(unittest.TestCase):
         books = [*parts_of(where, 1)]
         tables = [str(table_of(book)) for book in books]
         alone = [district_in(book) for book in books]
-        self.assertEqual(read_districts([str(book) for book in books], tables, "", 2), alone)
+        self.assertEqual(read_districts([str(book) for book in books], tables, "outagebook", 2), alone)
 
     def test_without_shared_memory_it_is_the_same_one_after_the_other(self) -> None:
         """Without /dev/shm a pool of processes fails as it makes its locks; a file that is no book is named all the same."""
@@ -69,12 +69,12 @@ class PartsOfANetwork(unittest.TestCase):
         alone = [district_in(Path(book)) for book in books]
         for failure in (FileNotFoundError(2, "No such file or directory"), PermissionError(13, "denied")):
             with patch("multiprocessing.synchronize.SemLock.__init__", side_effect=failure) as lock:
-                self.assertEqual(read_districts(books, tables, "", 2), alone)
+                self.assertEqual(read_districts(books, tables, "outagebook", 2), alone)
                 lock.assert_called_once()
         with patch.object(parallel, "ProcessPoolExecutor", side_effect=NotImplementedError):
-            self.assertEqual(read_districts(books, tables, "", 2), alone)
+            self.assertEqual(read_districts(books, tables, "outagebook", 2), alone)
             with self.assertRaisesRegex(BookError, "nowhere.db"):
-                read_districts([books[0], "nowhere.db"], tables, "", 2)
+                read_districts([books[0], "nowhere.db"], tables, "outagebook", 2)
 
 
 class AtOnce(unittest.TestCase):

@@ -118,7 +118,7 @@ class Views(unittest.TestCase):
             found = opened(self.book_of(each.name))
             begin = found.book.period.bounds[since]
             for one in counted(found, name):
-                if cause in (None, found.book.causes[one.run.cause]):
+                if cause in (None, found.book.causes[one.cause]):
                     total += one.customers * max(0, one.until - max(one.since, begin))
         return total
 
