@@ -33,6 +33,9 @@ put 755 "$program" bin/outagebook
 (cd "$here/tools" && find outage_tools -name '*.py' -o -name '*.sql') | sort | while read -r module; do
     put 644 "$here/tools/$module" "lib/outagebook/$module"
 done
+for module in commands from_file interruptions model state; do # the model, for outagebook-compare
+    put 644 "$here/oracle/$module.py" "lib/outagebook/oracle/$module.py"
+done
 for file in "$here"/tools/*.py; do
     tool=$(basename "$file" .py)
     put 755 "$file" "lib/outagebook/$tool.py"

@@ -17,8 +17,9 @@ from outage_tools.cli import Parser  # noqa: E402
 from outage_tools.copies import copy_of  # noqa: E402
 from outage_tools.counts import Counts, indices_of, quotient_text  # noqa: E402
 from outage_tools.errors import BookError  # noqa: E402
+from outage_tools.interruptions import LONGEST_MOMENTARY  # noqa: E402
 from outage_tools.rows import Book, Device, Entry, Period, Section, read_book  # noqa: E402
-from outage_tools.sweep import LONGEST_MOMENTARY, sweep  # noqa: E402
+from outage_tools.supply import sweep  # noqa: E402
 from outage_tools.zone import Zone  # noqa: E402
 
 __all__ = ["BookError", "Command", "Counts", "Device", "Entry", "LONGEST_MOMENTARY", "Parser", "Past", "Period", "Rows"]
@@ -59,7 +60,7 @@ class Rows:
 
 
 def past_outages(period: Period, nodes: Nodes, devices: Sequence[Device], entries: Sequence[Entry]) -> Past:
-    """All outages, by the tools' sweep over a book's rows."""
+    """All outages, by the tools' walk over a book's rows."""
     sections = {node: Section(node, name, feeder) for node, (name, kind, feeder) in enumerate(nodes) if kind == 2}
     names = {node: name for node, (name, _, _) in enumerate(nodes)}
     found: Past = {section.name: [] for section in sections.values()}

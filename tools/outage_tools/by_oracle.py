@@ -15,8 +15,9 @@ from typing import Any
 from outage_tools.cli import Parser, add_table_arguments, run_job
 from outage_tools.compare import Checked, compare_table, figures_of_table, open_book
 from outage_tools.errors import BookError, Differs
+from outage_tools.interruptions import joined
 
-PLACES = (Path(__file__).parents[1], Path(__file__).parents[2])  # where tools are installed, and in the clone
+PLACES = Path(__file__).resolve().parents[1:3]  # where tools are installed, and in the clone
 
 
 def said_by_oracle(copy: Path) -> dict[str, Any]:
@@ -49,7 +50,7 @@ def compare_with_oracle(found: Checked) -> str:
     if said["differs"]:
         raise Differs(f"table {said['differs']} of the book", "other rows", "its own")
     return (
-        f"equal: {said['runs']} runs, {len(said['interruptions']) - 1} interruptions of equal customers,"
+        f"equal: {said['runs']} runs, {sum(1 for _ in joined(found.interruptions))} interruptions of equal customers,"
         f" {len(found.book.postings)} postings, {len(found.table)} lines of the table"
     )
 

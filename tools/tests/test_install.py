@@ -149,6 +149,7 @@ class Install(unittest.TestCase):
             "major-days",
             "make",
             "next-year",
+            "order",
         ]
         tools += ["pack", "report", "sections", "sum", "try", "verify", "warehouse", "workbook", "years"]
         self.assertEqual(

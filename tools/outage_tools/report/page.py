@@ -34,9 +34,9 @@ from outage_tools.sums import Sums, district_of, read_districts
 
 FOOT = f"""
 <footer><p>{PROVED} are the words and amounts that the proved program printed and keeps: the indices of both sets, and the
-customer-seconds by cause, by day and by command. {COMPUTED} is what the tool of this page found by a sweep of its own over
-the book's network, entries and customers; before it wrote anything, its customer-seconds by cause, feeder and day, its
-counts and all fifteen quotients of both sets were equal to the program's. Moments are by the clock of the book's zone.</p></footer>"""
+customer-seconds by cause, by day and by command. {COMPUTED} is what the tool of this page adds up of the interruptions that
+the program lists; before it wrote anything, its customer-seconds by cause and feeder, its counts and all fifteen quotients of
+both sets were equal to those of the program's table. Moments are by the clock of the book's zone.</p></footer>"""
 
 
 @dataclass(frozen=True)
