@@ -64,7 +64,7 @@ def past_outages(period: Period, nodes: Nodes, devices: Sequence[Device], entrie
     sections = {node: Section(node, name, feeder) for node, (name, kind, feeder) in enumerate(nodes) if kind == 2}
     names = {node: name for node, (name, _, _) in enumerate(nodes)}
     found: Past = {section.name: [] for section in sections.values()}
-    for run in sweep(Book(2, period, {}, names, sections, tuple(devices), (), tuple(entries), {}, {})):
+    for run in sweep(Book(period, {}, names, sections, tuple(devices), (), tuple(entries), {}, {})):
         found[names[run.section]].append((run.since, run.until, run.cutter.number if run.cutter else 0))
     return found
 

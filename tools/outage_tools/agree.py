@@ -250,7 +250,7 @@ def reasons_of(book: Book, tickets: Tickets, ticket: Ticket) -> Iterator[str]:
         yield "its switchings cut nobody off"
     yield from already_out(book, tickets, ticket)
     yield from ends_elsewhere(book, tickets, ticket)
-    momentary = [part for part in ticket.parts if part.is_momentary]
+    momentary = [part for part in ticket.parts if not part.is_sustained]
     if momentary:
         seconds = sum(part.customer_seconds for part in momentary)
         yield f"momentary: {customers_of(momentary)} customers, {minutes_text(Fraction(seconds, 60))} of the minutes"
@@ -299,8 +299,8 @@ def ends_elsewhere(book: Book, tickets: Tickets, ticket: Ticket) -> Iterator[str
         yield f"{customers_of(last)} customers are out still at the period's end"
     if any(part.run.cutter is None or part.run.cutter.number not in tickets.of_entry for part in ticket.parts):
         yield "it ended an outage that no ticket began"
-    enders = {tickets.of_entry.get(part.ender.number, "no ticket") for part in ticket.parts if part.ender}
-    if any(part.ender is None and part.run.until != book.period.end for part in ticket.parts):
+    enders = {tickets.of_entry.get(part.run.ender.number, "no ticket") for part in ticket.parts if part.run.ender}
+    if any(part.run.ender is None and part.run.until != book.period.end for part in ticket.parts):
         enders.add("the life of a device")
     others = sorted(enders - {ticket.name})
     if others:

@@ -45,7 +45,7 @@ def network_rows(book: Book, first: int) -> Iterator[list[str]]:
     for device in book.devices:
         if device.until is not None and device.until <= first:
             continue
-        life = [device.since, device.until] if book.version == 2 else []
+        life = [device.since, device.until]
         ends = book.nodes[device.a], book.nodes[device.b]
         yield row_of(
             "device",

@@ -1,7 +1,7 @@
 """What a book holds, and how its tables are read.
 
-Seconds are Unix seconds, intervals end before their `until`, and customer-seconds are whole numbers. Versions 1 and 2
-of the tables are read; in version 2 a device is open outside its life.
+Seconds are Unix seconds, intervals end before their `until`, and customer-seconds are whole numbers. A device is open
+outside its life.
 """
 
 import sqlite3
@@ -13,6 +13,7 @@ from datetime import date, timedelta
 from outage_tools.errors import BookError
 from outage_tools.zone import Zone
 
+VERSION = 2  # of the tables
 CAUSE, FEEDER, DAY = 1, 2, 3  # the dimensions of `posting` and `moved`
 GRID = 0
 
@@ -106,7 +107,6 @@ class Block:
 
 @dataclass(frozen=True)
 class Book:
-    version: int
     period: Period
     causes: dict[int, str]
     nodes: dict[int, str]
@@ -139,19 +139,17 @@ def read_book(database: sqlite3.Connection) -> Book:
     """All that a book says, but its commands and what they moved."""
     select = database.execute
     headings = select("SELECT version, day0, days, zone FROM meta").fetchall()
-    if len(headings) != 1 or headings[0][0] not in (1, 2):
+    if len(headings) != 1 or headings[0][0] != VERSION:
         raise BookError(f"the tables are of no version that is known here: {headings}")
-    version, *period_texts = headings[0]
-    period = period_of(*period_texts)
+    period = period_of(*headings[0][1:])
     nodes = select("SELECT id, name, kind, feeder FROM node ORDER BY id").fetchall()
     entries = select("SELECT id, rev, device, pos, second, cause, crew, kept FROM entry ORDER BY id")
     return Book(
-        version=version,
         period=period,
         causes=dict(select("SELECT code, name FROM cause ORDER BY code")),
         nodes={node: name for node, name, _, _ in nodes},
         sections={node: Section(node, name, feeder) for node, name, kind, feeder in nodes if kind == 2},
-        devices=tuple(read_devices(database, version)),
+        devices=tuple(read_devices(database)),
         blocks=tuple(read_blocks(database, period)),
         entries=tuple(
             Entry(n, rev, d, pos == 1, s, c, crew, kept == 1) for n, rev, d, pos, s, c, crew, kept in entries
@@ -161,15 +159,13 @@ def read_book(database: sqlite3.Connection) -> Book:
     )
 
 
-def read_devices(database: sqlite3.Connection, version: int) -> Iterator[Device]:
+def read_devices(database: sqlite3.Connection) -> Iterator[Device]:
     rows = database.execute("SELECT id, name, a, b, normal FROM device ORDER BY id").fetchall()
-    lives: dict[int, tuple[int, int | None]] = {}
-    if version == 2:
-        lives = {device: life for device, *life in database.execute("SELECT device, since, until FROM life")}
-        if lives.keys() != {row[0] for row in rows}:
-            raise BookError("the table life hasn't one row for each device")
+    lives = {device: life for device, *life in database.execute("SELECT device, since, until FROM life")}
+    if lives.keys() != {row[0] for row in rows}:
+        raise BookError("the table life hasn't one row for each device")
     for number, name, a, b, normal in rows:
-        yield Device(number, name, a, b, normal == 1, *lives.get(number, (0, None)))
+        yield Device(number, name, a, b, normal == 1, *lives[number])
 
 
 def read_blocks(database: sqlite3.Connection, period: Period) -> Iterator[Block]:

@@ -12,12 +12,14 @@ from outage_tools.rows import GRID, Book, Device, Entry
 
 @dataclass(frozen=True)
 class Run:
-    """A longest interval of the period in which a section isn't supplied, with the entry that cut it off, if any."""
+    """A longest interval of the period in which a section isn't supplied, with the entries that cut it off and that brought
+    supply back, if any."""
 
     section: int
     since: int
     until: int
     cutter: Entry | None
+    ender: Entry | None = None
 
 
 class Supply:
@@ -75,7 +77,8 @@ def sweep(book: Book) -> list[Run]:
     """The runs of all sections.
 
     Lives act before the entries of their second, these act by their numbers, and only then is the second looked at. The
-    cutter of a run is the last entry of its first second that took the section from supplied to not supplied.
+    cutter of a run is the last entry of its first second that took the section from supplied to not supplied, its ender the
+    last one of the second at which it is over that took it back.
     """
     supply = Supply(book)
     entries_at: dict[int, list[Entry]] = defaultdict(list)
@@ -91,13 +94,15 @@ def sweep(book: Book) -> list[Run]:
     for moment in sorted(moment for moment in moments if book.period.first <= moment < book.period.end):
         if moment in lives and supply.come_to(moment):
             supplied = supply.supplied()
-        cutters: dict[int, Entry] = {}
+        cutters, enders = dict[int, Entry](), dict[int, Entry]()
         for entry in entries_at.get(moment, ()):
             if supply.switch(entry, moment):
                 before, supplied = supplied, supply.supplied()
                 cutters.update((node, entry) for node in before - supplied)
+                enders.update((node, entry) for node in supplied - before)
         for section in sections & supplied & going.keys():
-            runs.append(Run(section, going[section][0], moment, going.pop(section)[1]))
+            since, cutter = going.pop(section)
+            runs.append(Run(section, since, moment, cutter, enders.get(section)))
         for section in sections - supplied - going.keys():
             going[section] = moment, cutters.get(section)
     runs += [Run(section, since, book.period.end, cutter) for section, (since, cutter) in going.items()]

@@ -15,33 +15,17 @@ from outage_tools.commands import read_commands
 from outage_tools.compare import Checked
 from outage_tools.errors import BookError
 from outage_tools.feeding import Feeding
-from outage_tools.interruptions import LONGEST_MOMENTARY, blocks_by_section
+from outage_tools.interruptions import Interruption, blocks_by_section
 from outage_tools.references import switchings_of
 from outage_tools.rows import Block, Book, Entry
-from outage_tools.supply import Run, Supply, bounds_of_lives, sweep
+from outage_tools.supply import Run, sweep
 
 
 @dataclass(frozen=True)
-class Part:
-    """What customers of equal service have of a run, with the entry that ended it where one did."""
+class Part(Interruption):
+    """An interruption with the run of its section."""
 
     run: Run
-    block: Block
-    since: int
-    until: int
-    ender: Entry | None
-
-    @property
-    def seconds(self) -> int:
-        return self.until - self.since
-
-    @property
-    def customer_seconds(self) -> int:
-        return self.block.customers * self.seconds
-
-    @property
-    def is_momentary(self) -> bool:
-        return self.seconds <= LONGEST_MOMENTARY
 
 
 @dataclass
@@ -60,7 +44,7 @@ class Ticket:
     @property
     def interruptions(self) -> int:
         """Its interruptions: a customer that had two counts twice."""
-        return sum(part.block.customers for part in self.parts)
+        return sum(part.customers for part in self.parts)
 
     @property
     def customer_seconds(self) -> int:
@@ -70,7 +54,7 @@ class Ticket:
         """The sections that were interrupted, each with its customers who were; the one with most first."""
         parts: dict[int, list[Part]] = defaultdict(list)
         for part in self.parts:
-            parts[part.run.section].append(part)
+            parts[part.section].append(part)
         counts = {section: customers_of(listed) for section, listed in parts.items()}
         return dict(sorted(counts.items(), key=lambda pair: (-pair[1], pair[0])))
 
@@ -92,9 +76,9 @@ class Tickets:
     runs: dict[int, list[tuple[Run, str | None]]] = field(default_factory=lambda: defaultdict(list))
     blocks: dict[int, list[Block]] = field(default_factory=dict)  # of each section
 
-    def owner(self, run: Run, ender: Entry | None) -> str | None:
+    def owner(self, run: Run) -> str | None:
         """The ticket to which the interruptions of a run belong."""
-        owners = (self.of_entry.get(entry.number) for entry in (run.cutter, ender) if entry)
+        owners = (self.of_entry.get(entry.number) for entry in (run.cutter, run.ender) if entry)
         return next((owner for owner in owners if owner is not None), None)
 
     def run_at(self, section: int, second: int) -> tuple[Run, str | None] | None:
@@ -107,29 +91,6 @@ class Tickets:
         """The ticket of that run; None where there is none."""
         run = self.run_at(section, second)
         return run[1] if run is not None else None
-
-
-def enders_of(book: Book) -> dict[tuple[int, int], Entry]:
-    """The entries that brought supply back, by the section and the second.
-
-    As in a sweep, lives act before the entries of their second, and these by their numbers.
-    """
-    supply = Supply(book)
-    entries_at: dict[int, list[Entry]] = defaultdict(list)
-    for entry in book.entries:
-        if entry.is_kept:
-            entries_at[entry.second].append(entry)
-    lives = bounds_of_lives(book.devices)
-    enders: dict[tuple[int, int], Entry] = {}
-    supplied = supply.supplied()
-    for moment in sorted(second for second in {*entries_at, *lives} if book.period.first <= second < book.period.end):
-        if moment in lives and supply.come_to(moment):
-            supplied = supply.supplied()
-        for entry in entries_at.get(moment, ()):
-            if supply.switch(entry, moment):
-                before, supplied = supplied, supply.supplied()
-                enders.update(((node, moment), entry) for node in supplied - before)
-    return enders
 
 
 def tickets_of_entries(found: Checked, prefix: str, known: Iterable[str]) -> dict[int, str]:
@@ -157,12 +118,11 @@ def tickets_of(found: Checked, prefix: str = "OMS-", known: Iterable[str] = ()) 
     tickets = Tickets(Feeding(book), of_entry=of_entry, blocks=blocks)
     for number, name in of_entry.items():
         tickets.by_name.setdefault(name, Ticket(name)).entries.append(book.entries[number - 1])
-    enders = enders_of(book)
     for run in sweep(book):
-        tickets.runs[run.section].append((run, tickets.owner(run, enders.get((run.section, run.until)))))
+        tickets.runs[run.section].append((run, tickets.owner(run)))
     for each in found.interruptions:
         runs = tickets.runs[each.section]
         run, owner = runs[bisect_right(runs, each.since, key=lambda pair: pair[0].since) - 1]
         parts = tickets.of_none if owner is None else tickets.by_name[owner].parts
-        parts.append(Part(run, each.block, each.since, each.until, enders.get((run.section, run.until))))
+        parts.append(Part(**vars(each), run=run))
     return tickets

@@ -178,9 +178,8 @@ def work_values(book: Book, work: Work) -> list[Value]:
 
 
 def life_of(command: Command) -> tuple[int, int | None]:
-    """The life that a `device` or a `life` says; a `device` of version 1 says none, and has the whole one."""
-    ends = command.fields[1:] if command.kind == "life" else command.fields[4:]
-    since, until = ends or ["0", "-"]
+    """The life that a `device` or a `life` says."""
+    since, until = command.fields[-2:]
     return int(since), None if until == "-" else int(until)
 
 

@@ -132,21 +132,6 @@ def made_of(name: str, texts: Iterable[tuple[Path, tuple[str, str, str]]]) -> li
     return made(folder() / name, "--list", str(listed))
 
 
-def as_version_1(made: Made) -> Path:
-    """A copy of a made book whose lives are all whole, as the program wrote it when devices had none."""
-    path = folder() / f"{made.name}-version-1.db"
-    shutil.copyfile(made.book, path)
-    with contextlib.closing(sqlite3.connect(str(path))) as database:
-        database.execute("PRAGMA synchronous = off")
-        if database.execute("SELECT count(*) FROM life WHERE since > 0 OR until IS NOT NULL").fetchone() != (0,):
-            raise ValueError(f"{made.name} has lives that aren't whole")
-        database.execute("DROP TABLE life")
-        database.execute("UPDATE cmd SET body = substr(body, 1, length(body) - 4) WHERE body LIKE 'device % 0 -'")
-        database.execute("UPDATE meta SET version = 1")
-        database.commit()
-    return path
-
-
 def edges() -> Made:
     """The last of the made books, in which no device's life begins or ends."""
     return books()[-1]

@@ -146,7 +146,7 @@ class Worked(unittest.TestCase):
         self.assertEqual(found["T-1"].customer_seconds, 2 * 400)
         self.assertEqual(found["T-2"].customer_seconds, 3 * 400)
         parts = found["T-1"].parts
-        self.assertEqual([part.ender.number for part in parts if part.ender], [6])
+        self.assertEqual([part.run.ender.number for part in parts if part.run.ender], [6])
 
     def test_a_service_that_begins_in_it_and_the_end_of_the_period(self) -> None:
         found = self.found(
@@ -328,7 +328,7 @@ class Sums(unittest.TestCase):
         listed = [part for ticket in tickets.by_name.values() for part in ticket.parts] + tickets.of_none
         for part in listed:
             with self.subTest(section=part.run.section, until=part.run.until):
-                self.assertEqual(part.ender, last_ender(book, part.run.section, part.run.until))
+                self.assertEqual(part.run.ender, last_ender(book, part.run.section, part.run.until))
 
 
 def last_ender(book: Book, section: int, second: int) -> object:

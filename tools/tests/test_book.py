@@ -1,4 +1,4 @@
-"""The reader of books, worked outages as the walk of drafts has them, and books whose rows or tables were changed."""
+"""The reader of books, the walk of drafts over them, and books whose rows or tables were changed."""
 
 import contextlib
 import random
@@ -7,21 +7,14 @@ import sqlite3
 import subprocess
 import threading
 import unittest
-from collections import Counter
-from collections.abc import Iterable
 from pathlib import Path
 
 from outage_tools.compare import compare_table, figures_of_table, open_book
 from outage_tools.copies import copy_of
 from outage_tools.errors import BookError, Differs
 from outage_tools.interruptions import joined
-from outage_tools.rows import Block, Book, Device, Entry, Section, period_of
 from outage_tools.supply import interruptions_of, sweep
 from tests import support
-
-T = 1_704_067_200  # midnight of 1 January 2024 in UTC
-Switching = tuple[str, str, int, int]  # device, open or close, seconds behind T, cause
-Life = tuple[str, int, int | None]
 
 
 def changed(name: str, statement: str) -> Path:
@@ -35,50 +28,18 @@ def changed(name: str, statement: str) -> Path:
     return copy
 
 
-def worked(entries: Iterable[Switching], lives: Iterable[Life] = ()) -> Book:
-    """A day's book: two customers on S1 and three on S2 of feeder 1, five on S3 of feeder 2."""
-    period = period_of("2024-01-01", 1, "UTC0")
-    ends = [("I1", 0, 1, True), ("B1", 1, 2, True), ("W1", 2, 3, True), ("B2", 1, 4, True), ("T1", 3, 4, False)]
-    devices = [Device(n, name, a, b, is_closed) for n, (name, a, b, is_closed) in enumerate(ends)]
-    numbers = {device.name: device.number for device in devices}
-    for name, since, until in lives:
-        old = devices[numbers[name]] if name in numbers else Device(len(devices), name, 1, 2, True)
-        device = Device(old.number, name, old.a, old.b, old.is_closed, since, until)
-        devices[old.number : old.number + 1] = [device]
-    said = [
-        Entry(n, 1, numbers[name], act == "close", T + second, cause, "K1", True)
-        for n, (name, act, second, cause) in enumerate(entries, 1)
-    ]
-    return Book(
-        version=2,
-        period=period,
-        causes={0: "UNASSIGNED", 3: "STORM", 4: "PLANNED"},
-        nodes={0: "GRID", 1: "BUS-A", 2: "S1", 3: "S2", 4: "S3"},
-        sections={2: Section(2, "S1", 1), 3: Section(3, "S2", 1), 4: Section(4, "S3", 2)},
-        devices=tuple(devices),
-        blocks=tuple(Block(node, T, T + 86_400, count) for node, count in [(2, 2), (3, 3), (4, 5)]),
-        entries=tuple(said),
-        marks={},
-        postings={},
-    )
-
-
-def amounts(book: Book) -> dict[int, int]:
-    """The customer-seconds by cause."""
-    causes = Counter[int]()
-    for each in interruptions_of(book, sweep(book)):
-        causes[each.cause] += each.customer_seconds
-    return dict(causes)
-
-
-OUTAGE = [("B1", "open", 3_600, 3), ("W1", "open", 4_200, 3), ("T1", "close", 4_200, 3), ("B1", "close", 7_200, 3)]
-
-
 class MadeBooks(unittest.TestCase):
     def test_all_are_equal_to_the_model(self) -> None:
         for made in support.books():
             with self.subTest(made.name):
                 self.assertGreater(len(support.opened(made).table), 36)
+
+    def test_the_walk_of_drafts_finds_the_same(self) -> None:
+        """With lives that begin and end, and several switchings in one second."""
+        for made in support.books():
+            found = support.opened(made)
+            with self.subTest(made.name):
+                self.assertEqual(interruptions_of(found.book, sweep(found.book)), found.interruptions)
 
     @support.needs_program
     def test_all_are_equal_to_the_program(self) -> None:
@@ -92,65 +53,14 @@ class MadeBooks(unittest.TestCase):
                 self.assertEqual("\n".join(found.table) + "\n", made.table.read_text())
 
 
-class Worked(unittest.TestCase):
-    """Outages of which every figure is known."""
-
-    def test_an_outage_and_a_tie(self) -> None:
-        self.assertEqual(amounts(worked(OUTAGE)), {3: 9_000})
-
-    def test_two_openings_at_once(self) -> None:
-        said = [
-            ("B1", "open", 3_600, 3),
-            ("B2", "open", 3_600, 4),
-            ("B1", "close", 4_200, 3),
-            ("B2", "close", 4_200, 4),
-        ]
-        self.assertEqual(amounts(worked(said)), {3: 3_000, 4: 3_000})
-
-    def test_what_opens_and_closes_in_one_second(self) -> None:
-        self.assertEqual(amounts(worked([("B2", "open", 3_600, 3), ("B2", "close", 3_600, 3)])), {})
-        self.assertEqual(amounts(worked([("B2", "close", 3_600, 3), ("B2", "open", 3_600, 3)]))[3], 414_000)
-
-    def test_a_run_keeps_its_cutter(self) -> None:
-        said = [
-            ("B2", "open", 3_600, 3),
-            ("B2", "close", 4_000, 3),
-            ("B2", "open", 4_000, 4),
-            ("B2", "close", 5_000, 4),
-        ]
-        self.assertEqual(amounts(worked(said))[3], 7_000)
-
-    def test_the_end_of_a_life_cuts_without_a_cause(self) -> None:
-        found = amounts(worked(OUTAGE, [("T1", 0, T + 6_000)]))
-        # S2 and S3 hang on the tie from 4,200 on: S2 is cut off by its end until the period's, since W1 stays open.
-        self.assertEqual(found, {0: 241_200, 3: 9_000})
-
-    def test_a_device_that_comes_to_life_supplies(self) -> None:
-        found = amounts(worked(OUTAGE, [("X1", T + 5_000, None)]))
-        self.assertEqual(found, {3: 4_600})
-
-    def test_an_entry_after_the_end_of_a_life_moves_nothing(self) -> None:
-        life = [("B2", 0, T + 3_600)]
-        self.assertEqual(amounts(worked([], life)), {0: 414_000})
-        self.assertEqual(amounts(worked([("B2", "open", 3_600, 4)], life))[0], 414_000)
-        self.assertEqual(amounts(worked([("B2", "open", 3_599, 4)], life)), {4: 414_005})
-
-
 class Lives(unittest.TestCase):
-    def test_tables_of_version_2_are_read(self) -> None:
+    def test_lives_are_read(self) -> None:
         """In the fortnight TIE-2 joins and FUSE-13 leaves; if they had another life, other figures would follow."""
         made = support.fortnight()
         book = support.opened(made).book
         lives = {device.name: (device.since, device.until) for device in book.devices}
-        self.assertEqual((book.version, lives["TIE-2"]), (2, (1_743_598_800, None)))
+        self.assertEqual(lives["TIE-2"], (1_743_598_800, None))
         self.assertEqual((lives["FUSE-13"], lives["CB-1"]), ((0, 1_743_841_800), (0, None)))
-
-    def test_tables_of_version_1_are_read(self) -> None:
-        """A book from before devices had lives has the figures of the same one in which all lives are whole."""
-        made = support.edges()
-        with open_book(str(support.as_version_1(made)), str(made.table)) as found:
-            self.assertEqual(found.book.version, 1)
-            self.assertEqual({(device.since, device.until) for device in found.book.devices}, {(0, None)})
 
     def test_a_life_for_each_device(self) -> None:
         path = changed("no-life", "DELETE FROM life WHERE device = 3")
@@ -188,8 +98,6 @@ class Changed(unittest.TestCase):
             "UPDATE node SET feeder = 2 WHERE id = 3",
             "DELETE FROM mark",
             "INSERT INTO mark VALUES (3, 'E')",
-            "UPDATE meta SET days = 13",
-            "UPDATE meta SET zone = 'UTC0'",
         ]
         for number, change in enumerate(changes):
             with self.subTest(change), self.assertRaises(Differs):

@@ -215,7 +215,7 @@ class Pages(unittest.TestCase):
     def test_which_links_are_kept(self) -> None:
         """Links in all shapes; by a path that has the commands of POSIX alone, so no Python."""
         root, path, to = (support.folder() / name for name in ("root", "commands-of-install", "destdir"))
-        for folder in ("tools", "screen", "packaging"):
+        for folder in ("tools", "screen", "packaging", "oracle"):
             shutil.copytree(support.ROOT / folder, root / folder, ignore=shutil.ignore_patterns("tests", "__pycache__"))
         for folder in ("docs/use", "docs/pictures", "examples", "deploy", "crates/a.b"):
             (root / folder).mkdir(parents=True)

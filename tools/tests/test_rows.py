@@ -11,9 +11,10 @@ from pathlib import Path
 from outage_tools import next_year
 from outage_tools.commands import read_commands, write_rows
 from outage_tools.rows import Book
-from tests import support
+from tests import program_books, support
 from tests.support import written
-from tests.test_book import T, worked
+
+T = 1_704_067_200  # midnight of 1 January 2024 in UTC
 
 TABLES = {
     "meta": "id",
@@ -61,14 +62,6 @@ class Commands(unittest.TestCase):
         for made, anew in zip(support.books(), support.made_of("anew", texts)):
             with self.subTest(made.name):
                 self.assertEqual(tables_of(anew.book), tables_of(made.book))
-
-    def test_a_book_of_version_1_goes_on_in_a_new_one(self) -> None:
-        """Its commands, imported into a new book, give that book's tables: the devices' lives are whole."""
-        made = support.edges()
-        done = support.run_tool("commands", support.as_version_1(made), table=made)
-        self.assertEqual(done.returncode, 0, done.stderr)
-        (anew,) = support.made_of("from-version-1", [(written("from-version-1.csv", done.stdout), made.period)])
-        self.assertEqual(tables_of(anew.book), tables_of(made.book))
 
     def test_names_that_are_a_dash(self) -> None:
         rows = [
@@ -121,15 +114,23 @@ class NextYear(unittest.TestCase):
         self.assertEqual(customers, {str(number) for number, in found})
 
     def test_lives(self) -> None:
-        """In version 2 devices come with their lives; one whose life is over doesn't come, nor does its switching."""
+        """Devices come with their lives; one whose life is over doesn't come, nor does its switching."""
         end = T + 86_400
-        said = [("T1", "close", 100, 3), ("B2", "open", 200, 4)]
-        book = worked(said, [("T1", T, end), ("W1", T + 50, end + 50), ("X1", T + 5_000, None)])
+        text = ["cause,C3,3,STORM", "cause,C4,4,PLANNED", "bus,A,BUS-A"]
+        text += [f"section,{name},{name},1" for name in ("S1", "S2", "S3")]
+        text += ["device,I1,I1,GRID,BUS-A,closed", "device,B1,B1,BUS-A,S1,closed", "device,B2,B2,BUS-A,S3,closed"]
+        text += [f"device,W1,W1,S1,S2,closed,{T + 50},{end + 50}", f"device,T1,T1,S2,S3,open,{T},{end}"]
+        text += [f"device,X1,X1,BUS-A,S1,closed,{T + 5_000},"]
+        text += [f"switch,E1,T1,close,{T + 100},3,K1", f"switch,E2,B2,open,{T + 200},4,K1"]
+        (made,) = support.made_of(
+            "lives", [(written("lives.csv", program_books.text_of(text)), ("2024-01-01", "1", "UTC0"))]
+        )
+        book = support.opened(made).book
         rows = [row for row in next_year.network_rows(book, end) if row[0] == "device"]
-        self.assertEqual([row[2] for row in rows], ["I1", "B1", "W1", "B2", "X1"])
+        self.assertEqual([row[2] for row in rows], ["I1", "B1", "B2", "W1", "X1"])
         self.assertEqual(
             [row[-2:] for row in rows],
-            [["0", ""], ["0", ""], [str(T + 50), str(end + 50)], ["0", ""], [str(T + 5_000), ""]],
+            [["0", ""], ["0", ""], ["0", ""], [str(T + 50), str(end + 50)], [str(T + 5_000), ""]],
         )
         self.assertEqual([row[2:6] for row in next_year.switching_rows(book, end)], [["B2", "open", str(end), "4"]])
 

@@ -4,8 +4,10 @@ import csv
 import io
 import json
 import random
+import sqlite3
 import unittest
 from collections.abc import Callable, Iterable
+from contextlib import closing
 from dataclasses import dataclass, field
 from pathlib import Path
 from unittest import mock
@@ -232,7 +234,9 @@ class Trials(unittest.TestCase):
         self.assertEqual(support.run_tool("try", self.book, *PROGRAM).returncode, 64)
 
     def test_a_book_of_version_1(self) -> None:
-        path = support.as_version_1(support.edges())
+        path = support.folder() / "version-1.db"
+        with closing(sqlite3.connect(path)) as database:
+            database.executescript((support.ROOT / "oracle/version_1/outages.sql").read_text())
         done = support.run_tool("try", path, EXAMPLES / "corrections.csv", *PROGRAM)
         self.assertEqual(done.returncode, 1)
         self.assertIn("refused 19 OldVersion 1", done.stderr)

@@ -12,7 +12,7 @@ from functools import cached_property
 
 from outage_tools.counts import Counts, counts_of
 from outage_tools.feeding import Feeding
-from outage_tools.interruptions import Interruption
+from outage_tools.interruptions import Interruption, blocks_by_section
 from outage_tools.normal_state import SOURCE
 from outage_tools.oms.known import Known, Service
 from outage_tools.oms.steps import Step
@@ -93,7 +93,6 @@ class Drafting:
     def draft(self, steps: Iterable[Step]) -> "Draft":
         """The book, with the steps of the rows that made its entries."""
         book = Book(
-            version=2,
             period=self.period,
             causes={},
             nodes={number: name for name, number in self.nodes.items()},
@@ -172,10 +171,7 @@ class Draft:
 
     @cached_property
     def blocks_in(self) -> dict[int, list[Block]]:
-        found: dict[int, list[Block]] = defaultdict(list)
-        for block in self.book.blocks:
-            found[block.section].append(block)
-        return found
+        return blocks_by_section(self.book)
 
     @cached_property
     def ticket_of_entry(self) -> dict[int, str]:

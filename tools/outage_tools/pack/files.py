@@ -12,8 +12,8 @@ from outage_tools.commands import read_commands, write_rows
 from outage_tools.compare import Checked
 from outage_tools.filings import TITLES, filing
 from outage_tools.forms import write_csv_to
-from outage_tools.interruption_rows import interruption_rows
 from outage_tools.lists import read_cause_groups, read_names, read_section_groups
+from outage_tools.outages import interruptions
 from outage_tools.program import answer_of
 from outage_tools.report import Asked, page
 from outage_tools.versions import Made
@@ -96,7 +96,7 @@ def write_tool_files(found: Checked, order: Order, lists: dict[str, Path], folde
     with (folder / COMMANDS).open("w", encoding="utf-8", newline="") as file:
         write_rows((command.row() for command in read_commands(found.database)), file)
     with (folder / INTERRUPTIONS).open("w", encoding="utf-8", newline="") as file:
-        write_csv_to(interruption_rows(found), file)
+        write_csv_to(interruptions(found), file)
     for name in order.filings:
         with (folder / f"filing-{name}.csv").open("w", encoding="utf-8", newline="") as file:
             write_csv_to(filing(found, name, wanted.cause_groups), file)
