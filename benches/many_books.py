@@ -11,8 +11,8 @@ and commands alone.
 Then, for each number of districts, in rising order: the sum of all, their load into the warehouse in PostgreSQL (libpq's
 environment says where), which has those of the number before already, the load again, the time of some views over all; and
 that SAIDI of the sum and of the warehouse are one fraction, or it ends with 1. Tables are printed once before and told by
-themselves: of the program the tools' own seconds have the list of interruptions alone. Processor seconds are those of a command with all that
-it started; PostgreSQL's stand beside them.
+themselves: of the program the tools' own seconds have the list of interruptions alone. Processor seconds are those of a
+command with all that it started; PostgreSQL's stand beside them.
 """
 
 import argparse
