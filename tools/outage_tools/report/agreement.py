@@ -49,7 +49,7 @@ def agreement_part(found: Checked, agreement: Agreement) -> Part:
     content = f"""
 <p>Customers and customer-minutes that the outage management system counts, beside those of the book; minutes of the book are
 rounded here. {sums}</p>
-<p>{number(rest)} tickets are equal, or equal but for rounded minutes. Here are those that differ for another
-reason{shown}, the greatest difference first.</p>
+<p>Tickets that are equal, or equal but for rounded minutes: {number(rest)}. Those that differ for another reason{shown}, the
+greatest difference first:</p>
 {table(HEADS, rows) if rows else "<p>There is none.</p>"}"""
     return Part("agreement", "Beside the OMS's own counts", COMPUTED, content)

@@ -94,9 +94,9 @@ def exact_part(found: Checked, table_words: Mapping[str, str], indices: FurtherI
     content = f"""
 <p>The figures of the program's annual table: three decimals, and behind them the exact fraction in lowest terms; of ASAI
 five decimals. By IEEE Std 1366-2012; an interruption of more than 300 seconds is sustained.</p>
-<p>P is {number(book.period.length)} seconds, S {number(book.served_seconds())} customer-seconds in service, S / P
-{decimal(quotient(book.served_seconds(), book.period.length))} customers. W is {number(total)} customer-seconds without
-supply, momentary interruptions too. {TERMS}</p>
+<p>{TERMS} Here P is {number(book.period.length)}, S {number(book.served_seconds())} and S / P
+{decimal(quotient(book.served_seconds(), book.period.length))}; W, the customer-seconds without supply, momentary
+interruptions too, is {number(total)}.</p>
 {index_table(table_words, has_marks)}
 <h3>Further indices {COMPUTED}</h3>
 <p>{further.TERMS}</p>

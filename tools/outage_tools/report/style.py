@@ -45,8 +45,9 @@ th, td { text-align: left; vertical-align: top; padding: .3rem .5rem; border-bot
 th { color: var(--soft); font-weight: 600; vertical-align: bottom; }
 td.number, th.number { text-align: right; }
 td.long { white-space: normal; min-width: 14rem; } td.name { white-space: normal; min-width: 9rem; }
+.cards td.long { min-width: 10rem; } .cards td.name { min-width: 7rem; }
 th.over { text-align: center; border-bottom: 1px solid var(--line); }
-th.number { white-space: normal; min-width: 3.4rem; }
+th.number, th.name, th.long { white-space: normal; } th.number { min-width: 3.4rem; }
 td.code, .fraction { font-family: ui-monospace, Consolas, "DejaVu Sans Mono", monospace; font-size: .8rem; }
 .fraction { color: var(--soft); white-space: nowrap; }
 .wide td:first-child, .wide th:first-child { border-left: 3px solid transparent; padding-left: .3rem; }
@@ -72,22 +73,6 @@ details { margin: .5rem 0; }
 summary { cursor: pointer; color: var(--bar); }
 footer { margin-top: 3rem; border-top: 1px solid var(--line); padding-top: .8rem; color: var(--soft); font-size: .875rem; }
 @media screen and (min-width: 60rem) { figure svg { font-size: 10px; } }
-@media screen and (max-width: 40rem) {
-  .for-wide { display: none; } .for-narrow, .scrolls { display: block; }
-  .columns .wide svg { min-width: 44rem; }
-  .facts, .sign { grid-template-columns: 1fr; } .facts dd { margin-bottom: .4rem; } .sign { gap: 3.5rem; }
-  .wide td.code { white-space: normal; } .wide td.long { min-width: 12rem; }
-  .wide:not(.cards) td:first-child, .wide:not(.cards) th:first-child { position: sticky; left: 0;
-    background: var(--paper); box-shadow: inset 0 -1px var(--line); }
-  .cards, .cards table, .cards tbody, .cards tr, .cards td { display: block; }
-  .cards thead { display: none; }
-  .cards tr { border-bottom: 1px solid var(--line); padding: .4rem 0; }
-  .cards td, .cards td.number, .cards td.long { display: grid; grid-template-columns: 9rem 1fr; gap: 0 .6rem; border: 0;
-    padding: .05rem 0; white-space: normal; text-align: left; min-width: 0; }
-  .cards td:empty { display: none; }
-  .cards td::before { content: attr(data-label); color: var(--soft); }
-  .cards td:first-child { font-weight: 600; }
-}
 @media screen and (max-width: 56rem) {
   .indices, .indices tbody, .indices td { display: block; }
   .indices thead { display: none; }
@@ -98,6 +83,23 @@ footer { margin-top: 3rem; border-top: 1px solid var(--line); padding-top: .8rem
   .indices td[data-set] { white-space: nowrap; }
   .indices td[data-set]::before { content: "all days"; display: inline-block; width: 12rem; color: var(--soft); }
   .indices td[data-set="unmarked"]::before { content: "without major event days"; }
+  .cards, .cards table, .cards tbody, .cards tr, .cards td { display: block; }
+  .cards thead { display: none; }
+  .cards tr { border-bottom: 1px solid var(--line); padding: .4rem 0; }
+  .cards td, .cards td.number, .cards td.long { display: grid; grid-template-columns: 9rem 1fr; gap: 0 .6rem; border: 0;
+    padding: .05rem 0; white-space: normal; text-align: left; min-width: 0; }
+  .cards td:empty { display: none; }
+  .cards td::before { content: attr(data-label); color: var(--soft); }
+  .cards td:first-child { font-weight: 600; }
+}
+@media screen and (max-width: 40rem) {
+  .for-wide { display: none; } .for-narrow, .scrolls { display: block; }
+  .columns .wide svg { min-width: 44rem; }
+  .facts, .sign { grid-template-columns: 1fr; } .facts dd { margin-bottom: .4rem; } .sign { gap: 3.5rem; }
+  .wide td.code { white-space: normal; } .wide td.long { min-width: 12rem; }
+  .wide:not(.cards) td:first-child, .wide:not(.cards) th:first-child { position: sticky; left: 0;
+    background: var(--paper); box-shadow: inset 0 -1px var(--line); }
+  .indices td[data-set]::before, .indices td[data-set="unmarked"]::before { display: block; width: auto; }
 }
 @media print {
   body { max-width: none; padding: 0 1px; font-size: 10pt; } h1 { font-size: 18pt; }
@@ -116,7 +118,7 @@ footer { margin-top: 3rem; border-top: 1px solid var(--line); padding-top: .8rem
   table { font-size: 8pt; } td.code, .fraction { font-size: 7pt; } th, td { padding: .12rem .3rem; } td.long { min-width: 0; }
   th.number { min-width: 0; } td.name { min-width: 32mm; }
   .indices td.long { font-size: 7pt; }
-  #day-figures .wide { columns: 2; column-gap: 8mm; }
+  #day-figures .wide:not(.short) { columns: 2; column-gap: 8mm; }
   .indices b { min-width: 3.4rem; }
   thead { display: table-header-group; } tr { break-inside: avoid; }
   tbody tr:nth-last-child(-n+3):not(:first-child) { break-before: avoid; }
