@@ -9,7 +9,7 @@ STYLE = """
   --bar: #2b6cb0; --apart: #c2570c; --track: #eeeeee; color-scheme: light; } }
 * { box-sizing: border-box; }
 html { scroll-padding-top: 1rem; }
-body { margin: 0 auto; max-width: 70rem; padding: 1.5rem 1rem 3rem; background: var(--paper); color: var(--ink);
+body { margin: 0 auto; max-width: 76rem; padding: 1.5rem 1rem 3rem; background: var(--paper); color: var(--ink);
   font: 16px/1.5 system-ui, "Segoe UI", Roboto, "Helvetica Neue", Arial, sans-serif; }
 h1 { font-size: 1.7rem; line-height: 1.2; margin: 0 0 .3rem; }
 h2 { font-size: 1.2rem; margin: 2.4rem 0 .3rem; }
@@ -44,7 +44,7 @@ th, td { text-align: left; vertical-align: top; padding: .3rem .5rem; border-bot
   white-space: nowrap; }
 th { color: var(--soft); font-weight: 600; vertical-align: bottom; }
 td.number, th.number { text-align: right; }
-td.long { white-space: normal; min-width: 14rem; } td.name { white-space: normal; min-width: 9rem; }
+td.long { white-space: normal; min-width: 11rem; } td.name { white-space: normal; min-width: 9rem; }
 .cards td.long { min-width: 10rem; } .cards td.name { min-width: 7rem; }
 th.over { text-align: center; border-bottom: 1px solid var(--line); }
 th.number, th.name, th.long { white-space: normal; } th.number { min-width: 3.4rem; }
@@ -107,7 +107,7 @@ footer { margin-top: 3rem; border-top: 1px solid var(--line); padding-top: .8rem
   h2, h3, .legend, p { break-after: avoid; break-inside: avoid; }
   nav { display: none; } #cover { break-after: page; } #cover h2 { margin-top: 9pt; }
   figure, .tile, li, dt, dd, .short { break-inside: avoid; } figcaption { break-before: avoid; }
-  figure { break-after: avoid; margin: .4rem 0; } figure:has(+ h3), figure:has(+ figure) { break-after: auto; }
+  figure { break-after: avoid; margin: .4rem 0; } figure:has(+ h3), figure:has(+ p), figure:has(+ figure) { break-after: auto; }
   .facts { font-size: 9pt; gap: .1rem 1rem; margin: .4rem 0; } .sign { margin-top: 20mm; }
   .tiles { grid-template-columns: repeat(4, 1fr); gap: .5rem; margin: .6rem 0; } .tile span { font-size: 8pt; }
   .tile { padding: .4rem .6rem; } .wide { overflow: visible; background: none; }

@@ -37,6 +37,7 @@ ABOVE_ALL = (
     "CEMI-1 can be above 100 %: it counts each customer who was in service at any time, and divides by the customers served"
     " on average, which those who came or went raise by a part of one alone."
 )
+PARTED = "The large figures are from the program; the planned and the unplanned ones are computed here."
 MEANINGS = {
     "MAIFI": "momentary interruptions (300 seconds or less) per customer served",
     "CAIFI": "sustained interruptions per customer that had one",
@@ -113,10 +114,10 @@ def earlier_lines(earlier: Earlier | None, index: str) -> list[tuple[str, str]]:
     if earlier is None or len(earlier.years) < 2:
         return []
     now, before = (sums.indices("all")[index] for sums in (earlier.year, earlier.before))
-    shown = box_value(index, before)
+    lines = [(period_text(earlier.before.period), box_value(index, before))]
     if index != "ASAI" and are_alike(earlier.year.period, earlier.before.period):
-        shown += f" ({change(now, before)})"
-    return [(period_text(earlier.before.period), shown)]
+        lines.append(("change since", change(now, before)))
+    return lines
 
 
 # Words and tables.
@@ -215,14 +216,14 @@ def summary(
     earlier: Earlier | None,
 ) -> str:
     """The boxes, their words, and the tables below them."""
-    shown = []
+    shown, is_apart = [], bool(codes_of(groups, PLANNED))
     for box in boxes(table_words, bool(found.book.marks)):
         further = [*planned_lines(found, groups, box.index), *earlier_lines(earlier, box.index)]
         shown.append(Box(box.index, box.value, box.unit, [*box.lines, *further]))
     return f"""
 <section id="summary">
 {tiles(shown)}
-<p>{escape(in_words(found))} {escape(said_of_marks(found))}</p>
+<p>{escape(in_words(found))} {escape(said_of_marks(found))} {PARTED if is_apart else ""}</p>
 {further_text(found, table_words, indices, earlier)}
 <h3>Customers with many interruptions: CEMI, in per cent of the customers served {PROVED}</h3>
 {many_text(found, table_words)}

@@ -76,8 +76,8 @@ def years_part(years: Sequence[Sums]) -> Part:
     without = "" if has_marks else "\n<p>No day of these periods is marked as a major event day.</p>"
     meanings = ["without major event days", "what major event days add"] if has_marks else []
     content = f"""
-<p>Change is that to the period before, in per cent of it; there is none where the periods differ in length.</p>
 {legend(meanings) if meanings else ""}
 {drawn([year_bar(sums) for sums in shown], TITLE, "minutes per customer", NOTE)}{without}
+<p>Change is that to the period before, in per cent of it; there is none where the periods differ in length.</p>
 {"".join(tables)}"""
     return Part("years", "The years before", COMPUTED, content)
