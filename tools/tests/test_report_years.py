@@ -92,6 +92,7 @@ class Years(unittest.TestCase):
         for row in rows:
             self.assertIn(row, part)
         self.assertIn("2024-01-01 to 2024-01-02: 36.0 min, 6.0 without major event days", part)
+        self.assertEqual(part_of(text, "years").count('<rect class="apart"'), 3)  # two drawings and the legend
         box = text_of(text).partition("ASAI")[0]
         self.assertIn("without major event days 6.0 2023-01-01 to 2023-01-02 24.0 change since +50.0 % SAIFI 1.00", box)
 
@@ -160,7 +161,9 @@ exports: GIS of 2025-04-01
 class Covers(unittest.TestCase):
     def cover(self, facts: str = FACTS) -> Cover:
         made = Made("outagebook 2", "ab" * 32, "cd" * 32, "Python 3.11.2")
-        return Cover(read_facts(str(written("cover.txt", facts))), Sources("fortnight.db", ("planned.csv",), made))
+        return Cover(
+            read_facts(str(written("cover.txt", facts))), Sources("fortnight.db", made, ("planned.csv",), ("2024.db",))
+        )
 
     def test_a_cover_has_facts_method_sources_and_a_line_to_sign(self) -> None:
         found = support.opened(support.fortnight())
@@ -168,14 +171,15 @@ class Covers(unittest.TestCase):
         text = page(found, Asked(date="2025-04-07", cause_groups=causes, cover=self.cover()))
         part = text_of(part_of(text, "cover"))
         said = [
-            "Utility Mill & Hill Number 77 Address 1 Mill Lane, Harbour: the old house Responsible person A. Vance",
+            "Utility Mill & Hill Utility number 77 Address 1 Mill Lane, Harbour: the old house Responsible person A. Vance",
             "Prepared for The commission Method Standard IEEE Std 1366-2012",
             "more than 300 seconds (five minutes) is sustained",
             "Whole days that an engineer marks: 2025-03-30 by ENG-4. The threshold of the 2.5 beta method is not computed",
             "Planned are those of the causes PLANNED.",
             "goes on after it, as over New Year, counts with the part that lies in the period",
             f"Clock {ZONES['CET-1CEST,M3.5.0,M10.5.0/3']} (rule CET-1CEST,M3.5.0,M10.5.0/3)",
-            "Book fortnight.db: 102 commands, the last one OUT-0406-1 Exports GIS of 2025-04-01 Lists planned.csv",
+            "Book fortnight.db: 102 commands, the last one OUT-0406-1 Exports GIS of 2025-04-01 Lists planned.csv Books of the"
+            " years before 2024.db",
             f"Program outagebook 2, sha256 {'ab' * 32} Tools sha256 {'cd' * 32}, Python 3.11.2",
             "Place and date Signature of A. Vance",
         ]

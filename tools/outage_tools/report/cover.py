@@ -17,7 +17,7 @@ from outage_tools.versions import Made
 
 TITLES = {
     "utility": "Utility",
-    "number": "Number",
+    "number": "Utility number",
     "address": "Address",
     "responsible person": "Responsible person",
     "phone": "Phone",
@@ -28,7 +28,7 @@ CSV_COLUMNS = ("name", "value")
 STANDARD = "IEEE Std 1366-2012"
 LIMIT = (
     "An interruption of more than 300 seconds (five minutes) is sustained: it counts in SAIFI, SAIDI, CAIDI, CAIFI, ASAI and"
-    " CEMI. One of 300 seconds or less is momentary: it counts in MAIFI alone."
+    " CEMI. One of 300 seconds or less is momentary: it counts in MAIFI and CEMSMI alone."
 )
 OVER_THE_END = (
     "An outage that begins before the period or goes on after it, as over New Year, counts with the part that lies in the"
@@ -44,11 +44,13 @@ Facts = Mapping[str, str]  # what a cover says, by the names of TITLES
 
 @dataclass(frozen=True)
 class Sources:
-    """What a page was made of: the book's file, the lists that were given, the program and the tools by version."""
+    """What a page was made of: the book's file, the lists and the earlier books that were given, the program and the tools
+    by version."""
 
     book: str
-    lists: tuple[str, ...]
     made: Made
+    lists: tuple[str, ...] = ()
+    earlier: tuple[str, ...] = ()
 
 
 @dataclass(frozen=True)
@@ -145,6 +147,8 @@ def source_rows(cover: Cover, state: State) -> list[tuple[str, str]]:
         rows.append((TITLES["exports"], exports))
     if sources.lists:
         rows.append(("Lists", ", ".join(sources.lists)))
+    if sources.earlier:
+        rows.append(("Books of the years before", ", ".join(sources.earlier)))
     rows.append(("Program", made.text))
     return [*rows, ("Tools", f"sha256 {made.tools_sum}, {made.python}")]
 

@@ -140,8 +140,9 @@ def cover_of(args: argparse.Namespace) -> Cover | None:
     """The cover that the words of the command line ask for."""
     if args.cover is None:
         return None
-    lists = [path for path in (args.causes, args.names, args.by, args.oms, *(args.earlier or [])) if path]
-    sources = Sources(Path(args.book).name, tuple(Path(path).name for path in lists), made_by(args.table, args.program))
+    lists = tuple(Path(path).name for path in (args.causes, args.names, args.by, args.oms) if path)
+    earlier = tuple(Path(path).name for path in args.earlier or ())
+    sources = Sources(Path(args.book).name, made_by(args.table, args.program), lists, earlier)
     return Cover(read_facts(args.cover), sources)
 
 

@@ -225,9 +225,9 @@ def summary(
 {tiles(shown)}
 <p>{escape(in_words(found))} {escape(said_of_marks(found))} {PARTED if is_apart else ""}</p>
 {further_text(found, table_words, indices, earlier)}
-<h3>Customers with many interruptions: CEMI, in per cent of the customers served {PROVED}</h3>
+<h3>Customers with many interruptions (CEMI, in per cent of those served) {PROVED}</h3>
 {many_text(found, table_words)}
 <p>{escape(ABOVE_ALL)}</p>
-<h3>Customers with long interruptions: CELID, in per cent of the customers served {COMPUTED}</h3>
+<h3>Customers with long interruptions (CELID, in per cent of those served) {COMPUTED}</h3>
 {long_text(found, indices)}
 </section>"""
