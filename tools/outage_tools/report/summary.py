@@ -111,7 +111,7 @@ def planned_lines(found: Checked, groups: Groups | None, index: str) -> list[tup
 
 def earlier_lines(earlier: Earlier | None, index: str) -> list[tuple[str, str]]:
     """The value of the year before, and the change since then where both periods have one length."""
-    if earlier is None or len(earlier.years) < 2:
+    if earlier is None:
         return []
     now, before = (sums.indices("all")[index] for sums in (earlier.year, earlier.before))
     lines = [(period_text(earlier.before.period), box_value(index, before))]
