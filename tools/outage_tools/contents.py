@@ -11,7 +11,8 @@ from typing import NamedTuple
 from outage_tools.normal_state import SOURCE, TestedDevice
 from outage_tools.oms.complaints import BadRow, Complaint, Notes
 from outage_tools.oms.conversion import MOST_NAME, Conversion
-from outage_tools.oms.customers import GREATEST_NUMBER
+from outage_tools.keys import read_key
+from outage_tools.oms.customers import read_customer
 from outage_tools.oms.fields import identifier, number, read_moment, read_zone, shown
 from outage_tools.oms.files import Export, Row
 from outage_tools.oms.known import Service
@@ -120,6 +121,22 @@ class Contents:
             self.findings.append(Finding(Topic.TWICE, (name,), f"{kind} {name}: {first} and {place}", (place,)))
         return first == place
 
+    def keyed(self, key: str, service: Service) -> int | None:
+        """The number of a key's service, as the rows would have it; None where none is wanted. What is wrong with it is told where the
+        rows are written."""
+        keys = self.conversion.keys
+        if keys is None:
+            return None
+        found = keys.find(key, service, self.conversion.known.customers)
+        if found is None and not self.conversion.is_over(service.until):
+            found = keys.give(key)
+        keys.used |= {found} if found is not None else set()
+        return found
+
+    def customer_text(self, customer: int) -> str:
+        """A customer's number, with its key beside it where there is a table of keys."""
+        return self.conversion.keys.text(customer) if self.conversion.keys is not None else str(customer)
+
     def differs(self, kind: str, name: str, here: str, there: str, row: Row) -> None:
         """A finding where the book has something else."""
         place = Place(row.file, row.number)
@@ -197,13 +214,15 @@ def device_text(device: TestedDevice) -> str:
 
 def take_customer(contents: Contents, row: Row) -> None:
     """A customer; one whose service was over before the period doesn't come into its book."""
-    customer = number(row["customer"], GREATEST_NUMBER, "the customer")
+    keys = contents.conversion.keys
+    who: int | str = read_customer(row["customer"]) if keys is None else read_key(row["customer"])
     section = identifier(row["section"], MOST_NAME, "the section")
     if not row["since"]:
         raise BadRow("since is empty")
     since, until = contents.ends(row)
     service = Service(section, max(0, since or 0), until)
-    if not contents.is_first("customer", str(customer), row):
+    customer = who if isinstance(who, int) else contents.keyed(who, service)
+    if customer is None or not contents.is_first("customer", str(customer), row):
         return
     before = contents.customers.get(customer)
     if before is not None:

@@ -15,6 +15,7 @@ from fractions import Fraction
 from outage_tools.compare import Checked
 from outage_tools.counts import SETS, Counts, quotient
 from outage_tools.errors import BookError
+from outage_tools.keys import Keys
 from outage_tools.lists import heads_of, read_list
 from outage_tools.rows import Book
 from outage_tools.sweep import LONGEST_MOMENTARY, Run
@@ -173,8 +174,9 @@ def read_kva(path: str) -> tuple[str, dict[str, Fraction]]:
     return kind, found
 
 
-def loads_of(path: str, book: Book, database: sqlite3.Connection) -> Loads:
-    """The connected loads of a book by a file; each section with customers, or each customer served, has to be in it."""
+def loads_of(path: str, book: Book, database: sqlite3.Connection, keys: Keys | None = None) -> Loads:
+    """The connected loads of a book by a file; each section with customers, or each customer served, has to be in it. Customers are
+    called by their keys where these are given."""
     kind, kva = read_kva(path)
     period = book.period
     if kind == "section":
@@ -187,13 +189,13 @@ def loads_of(path: str, book: Book, database: sqlite3.Connection) -> Loads:
             " WHERE since < :end AND ifnull(until, :end) > max(since, :first) ORDER BY id",
             {"first": period.first, "end": period.end},
         ).fetchall()
-        known = {str(number): number for number, in database.execute("SELECT id FROM customer")}
-        names = {str(number) for number, *_ in served}
-        loads = [
-            Load(section, since, until, kva[str(number)])
-            for number, section, since, until in served
-            if str(number) in kva
-        ]
+        called = dict(keys.keys) if keys is not None else {}
+        known = {
+            called.get(number, str(number)).upper(): number for number, in database.execute("SELECT id FROM customer")
+        }
+        services = [(called.get(number, str(number)).upper(), *rest) for number, *rest in served]
+        names = {name for name, *_ in services}
+        loads = [Load(section, since, until, kva[name]) for name, section, since, until in services if name in kva]
     missing = sorted(names - kva.keys(), key=lambda name: (len(name), name))
     if missing:
         raise BookError(f"{path} hasn't the {kind} {missing[0]}, and {len(missing)} of the book's in all")

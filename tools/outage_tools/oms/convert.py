@@ -22,6 +22,7 @@ from outage_tools.cli import Once, Parser, add_table_arguments, print_error, run
 from outage_tools.commands import write_rows
 from outage_tools.compare import open_book
 from outage_tools.errors import BookError
+from outage_tools.keys import Keys, add_keys_argument, keys_for
 from outage_tools.oms import causes, customers, network, outages, told
 from outage_tools.oms.complaints import Notes
 from outage_tools.oms.conversion import Conversion
@@ -174,6 +175,7 @@ def add_export_arguments(parser: Parser, are_required: bool = False) -> None:
         help="a value of the column status that isn't worth a note, as closed, completed and restored aren't",
     )
     parser.add_argument("--crew", default="OMS", help="the crew if a row names none (OMS)")
+    add_keys_argument(parser, "the customers have keys of their own: the table of their numbers, which goes on")
     add_format_arguments(parser)
 
 
@@ -223,7 +225,14 @@ def conversion_of(args: argparse.Namespace, known: Known) -> Conversion:
         if period.first < 0 or period.end > LATEST_MOMENT:
             raise BookError("the period isn't between 1970 and 5138, as a book's seconds have to be")
     words = cancelled_words(args.cancelled), ordinary_words(args.ordinary)
-    return Conversion(args.zone or (period.zone if period else None), period, known, tuple(args.dates), *words)
+    keys = keys_for(args.keys, args.book, known.customer_refs, bool(args.customers))
+    return Conversion(args.zone or (period.zone if period else None), period, known, tuple(args.dates), *words, keys)
+
+
+def save_keys(keys: Keys | None) -> None:
+    """Keeps the numbers that were given out in a run, before its rows are there."""
+    if keys is not None:
+        keys.save()
 
 
 def write_report(path: Path, run: Run) -> None:
@@ -239,6 +248,7 @@ def convert(args: argparse.Namespace, known: Known) -> None:
         if args.report:
             write_report(args.report, run)
         run.refuse()
+        save_keys(run.conversion.keys)
     for line in told.lines_of_notes(run.files):
         print_error(f"note: {line}")
 

@@ -9,6 +9,7 @@ from collections import defaultdict
 from collections.abc import Iterator
 from dataclasses import dataclass, field, replace
 
+from outage_tools.keys import Keys
 from outage_tools.normal_state import SOURCE
 from outage_tools.oms.complaints import BadRow, Complaints
 from outage_tools.oms.conversion import MOST_NAME
@@ -46,16 +47,26 @@ class There:
     ends: dict[str, tuple[str, str]] = field(default_factory=dict)
     customers: dict[int, Service] = field(default_factory=dict)
     dates: tuple[str, ...] = ()
+    keys: Keys | None = None  # of the customers
+
+    def service_of(self, customer: str) -> Service | None:
+        """The service of a customer as the register calls it; of several under one key that of the second, else the last."""
+        if self.keys is None:
+            return self.customers.get(int(customer)) if customer.isdecimal() else None
+        numbers = self.keys.numbers.get(customer, [])
+        services = [self.customers[number] for number in numbers if number in self.customers]
+        now = [each for each in services if each.since <= self.at and (each.until is None or self.at < each.until)]
+        return next(iter([*now, *reversed(services)]), None)
 
     def text(self, second: int) -> str:
         return moment_text(second, self.zone)
 
 
-def there_of(known: Known, at: str, dates: tuple[str, ...]) -> There:
+def there_of(known: Known, at: str, dates: tuple[str, ...], keys: Keys | None = None) -> There:
     book = known.book
     assert book is not None  # it was opened
     zone = book.period.zone
-    found = There(zone, read_moment(at, "", zone, "--at", dates), customers=known.customers, dates=dates)
+    found = There(zone, read_moment(at, "", zone, "--at", dates), customers=known.customers, dates=dates, keys=keys)
     for node, name in book.nodes.items():
         if name != SOURCE:
             found.nodes[name] = book.sections[node].feeder if node in book.sections else None
@@ -76,7 +87,7 @@ def kept_names(
     in it in the earlier run."""
     votes: dict[tuple[int, str], list[int]] = defaultdict(lambda: [0, 0])
     for number, area in placed.area.items():
-        service = there.customers.get(number_of(cut.raw.customers[number].number))
+        service = there.service_of(cut.raw.customers[number].number)
         if service is not None:
             votes[area, service.section][0] += 1
     for area, edges in cut.inside().items():
@@ -95,11 +106,6 @@ def kept_names(
             found[area] = name
             taken.add(name)
     return found
-
-
-def number_of(text: str) -> int:
-    """A customer's number, or one that no customer has."""
-    return int(text) if text.isdecimal() else 0
 
 
 # Rows.
@@ -136,7 +142,7 @@ class Change:
         """A customer stays on its section."""
         for number, section in self.model.sections.items():
             customer = self.model.raw.customers[number]
-            before = self.there.customers.get(number_of(customer.number))
+            before = self.there.service_of(customer.number)
             if before is not None and before.section != section:
                 self.complaints.add(
                     customer.spot,
