@@ -1,4 +1,4 @@
-"""Indices of IEEE Std 1366-2012 that the program doesn't print: MAIFI, CTAIDI, CELID, CEMSMI, and of load ASIFI and ASIDI.
+"""Indices of IEEE Std 1366-2012 that the program doesn't print: MAIFI, MAIFI_E, CTAIDI, CELID, CEMSMI, and of load ASIFI and ASIDI.
 
 They come from the runs that were compared with the program's figures, over the same customers served (S / P), with the
 same line between sustained and momentary interruptions. Each is an exact quotient, or undefined where there is nothing
@@ -23,10 +23,13 @@ from outage_tools.sweep import LONGEST_MOMENTARY, Run
 HOUR = 3_600
 HOURS = (Fraction(4), Fraction(8), Fraction(12), Fraction(24))  # of CELID, where none are asked for
 MOST_CEMSMI = 10
+LONGEST_EVENT = (
+    300  # seconds from an event's first interruption to the beginning of its last; and before a sustained one
+)
 KVA_KINDS = ("section", "customer")
 
 TERMS = (
-    "MI are customers' momentary interruptions, each counted by itself; CNS_t customers with a sustained interruption of t"
+    "MI are customers' momentary interruptions, each counted by itself; ME their momentary interruption events; CNS_t customers with a sustained interruption of t"
     " hours or more, CNT_t with t hours or more of sustained ones in all; CNM_n with n or more of either kind."
 )
 
@@ -36,11 +39,12 @@ Spans = dict[int, list[tuple[int, int]]]
 @dataclass
 class FurtherCounts:
     """Customers with at least 1 to 10 interruptions of either kind; with a sustained one of so many hours; with so many
-    hours of sustained ones in all."""
+    hours of sustained ones in all; and customers' momentary interruption events."""
 
     with_any: list[int] = field(default_factory=lambda: [0] * MOST_CEMSMI)
     single: dict[Fraction, int] = field(default_factory=dict)
     total: dict[Fraction, int] = field(default_factory=dict)
+    events: int = 0
 
     def __add__(self, other: "FurtherCounts") -> "FurtherCounts":
         """The counts of both, whose customers are distinct."""
@@ -48,6 +52,7 @@ class FurtherCounts:
             [here + there for here, there in zip(self.with_any, other.with_any)],
             {hours: count + other.single[hours] for hours, count in self.single.items()},
             {hours: count + other.total[hours] for hours, count in self.total.items()},
+            self.events + other.events,
         )
 
 
@@ -59,14 +64,36 @@ def spans_of(runs: Iterable[Run]) -> Spans:
     return spans
 
 
+def parts_within(spans: Iterable[tuple[int, int]], since: int, until: int) -> Iterator[tuple[int, int]]:
+    """The interruptions of a service, in the order of time."""
+    for begin, end in spans:
+        if max(begin, since) < min(end, until):
+            yield max(begin, since), min(end, until)
+
+
 def lengths_within(
     book: Book, spans: Iterable[tuple[int, int]], since: int, until: int, unmarked: bool
 ) -> Iterator[int]:
     """The seconds of each interruption of a service, without those that begin on a marked day where they don't count."""
-    for begin, end in spans:
-        begin, end = max(begin, since), min(end, until)
-        if begin < end and not (unmarked and book.is_marked(begin)):
+    for begin, end in parts_within(spans, since, until):
+        if not (unmarked and book.is_marked(begin)):
             yield end - begin
+
+
+def momentary_events(parts: Iterable[tuple[int, int]]) -> list[int]:
+    """The first seconds of a customer's momentary interruption events. A momentary interruption and those that begin within five
+    minutes of its beginning are one; an event isn't counted where a sustained interruption begins within five minutes of its end.
+    """
+    events: list[tuple[int, int]] = []
+    for begin, end in parts:
+        if end - begin > LONGEST_MOMENTARY:
+            while events and begin - events[-1][1] <= LONGEST_EVENT:
+                events.pop()
+        elif events and begin - events[-1][0] <= LONGEST_EVENT:
+            events[-1] = events[-1][0], end
+        else:
+            events.append((begin, end))
+    return [begin for begin, _ in events]
 
 
 def further_counts(book: Book, runs: Iterable[Run], unmarked: bool, hours: Sequence[Fraction]) -> FurtherCounts:
@@ -76,6 +103,8 @@ def further_counts(book: Book, runs: Iterable[Run], unmarked: bool, hours: Seque
     for block in book.blocks:
         lengths = list(lengths_within(book, spans.get(block.section, ()), block.since, block.until, unmarked))
         sustained = [length for length in lengths if length > LONGEST_MOMENTARY]
+        events = momentary_events(parts_within(spans.get(block.section, ()), block.since, block.until))
+        counts.events += block.customers * sum(not (unmarked and book.is_marked(begin)) for begin in events)
         for n in range(min(MOST_CEMSMI, len(lengths))):
             counts.with_any[n] += block.customers
         for long in hours:
@@ -102,6 +131,7 @@ def further_indices(
     """The indices by name. `length` is P, `served_seconds` S; CTAIDI is in minutes."""
     indices = {
         "MAIFI": quotient(counts.momentary * length, served_seconds),
+        "MAIFI_E": quotient(further.events * length, served_seconds),
         "CTAIDI": quotient(counts.sustained_seconds, 60 * counts.with_some[0]),
     }
     for kind, numbers in (("S", further.single), ("T", further.total)):
@@ -114,6 +144,7 @@ def further_indices(
 
 MEANINGS = {
     "MAIFI": ("momentary interruptions per customer served, each counted by itself", "MI x P / S"),
+    "MAIFI_E": ("momentary interruption events per customer served, without those right before a sustained interruption", "ME x P / S"),
     "CTAIDI": ("minutes per customer that had a sustained interruption", "CSI / (60 x CN)"),
     "ASIFI": ("sustained interruptions of a connected kVA", "kVA interrupted x P / kVA-seconds connected"),
     "ASIDI": ("minutes of sustained interruptions of a connected kVA", "kVA-seconds interrupted x P / (60 x kVA-seconds connected)"),
