@@ -421,10 +421,12 @@ def looked_at(args: argparse.Namespace, known: Known, last: LastBook | None = No
     conversion = convert.conversion_of(args, known)
     assert conversion.period is not None  # the words tell it, or the book
     contents = contents_of(args, conversion)
-    findings = findings_of(contents, conversion.period, args.meshed)
     run, drafting = Run(args, convert.conversion_of(args, known), format_of(args)), Drafting(known, conversion.period)
     for row in run.commands():
         drafting.take(row)
+    if run.meters is not None:
+        contents.take_meters(run.meters)
+    findings = findings_of(contents, conversion.period, args.meshed)
     bounds = bounds_of(contents, conversion.period, entries_of(run, known))
     implausible = None
     if all(bound.fits for bound in bounds):

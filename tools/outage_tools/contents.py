@@ -16,6 +16,7 @@ from outage_tools.oms.customers import read_customer
 from outage_tools.oms.fields import identifier, number, read_moment, read_zone, shown
 from outage_tools.oms.files import Export, Row
 from outage_tools.oms.known import Service
+from outage_tools.oms.services import Meters
 from outage_tools.oms.steps import MOST_STEP
 
 
@@ -133,6 +134,22 @@ class Contents:
         keys.used |= {found} if found is not None else set()
         return found
 
+    def behind_meter(self, meter: str, section: str) -> str:
+        """The section behind a customer's meter, where it is a device at the section that supplies it; else the section itself."""
+        ends = self.devices[meter].ends if meter in self.devices else ()
+        others = [end for end in ends if end != section] if section in ends else []
+        listed = [device for device in self.devices.values() if set(others) & set(device.ends)]
+        return others[0] if others and len(listed) == 1 else section
+
+    def take_meters(self, meters: Meters) -> None:
+        """The sections and devices that tickets of single services get when rows are written."""
+        for meter in meters.made:
+            ends, is_closed = meters.network.devices[meter]
+            place = Place(meters.tickets[meter].file, meters.tickets[meter].number)
+            self.nodes[ends[1]] = Node(ends[1], meters.network.nodes[ends[1]], place)
+            self.devices[meter] = TestedDevice(meter, ends, is_closed, 0, None)
+            self.places["node", ends[1]] = self.places["device", meter] = place
+
     def customer_text(self, customer: int) -> str:
         """A customer's number, with its key beside it where there is a table of keys."""
         return self.conversion.keys.text(customer) if self.conversion.keys is not None else str(customer)
@@ -220,6 +237,7 @@ def take_customer(contents: Contents, row: Row) -> None:
     if not row["since"]:
         raise BadRow("since is empty")
     since, until = contents.ends(row)
+    section = contents.behind_meter(row["meter"].upper(), section)
     service = Service(section, max(0, since or 0), until)
     customer = who if isinstance(who, int) else contents.keyed(who, service)
     if customer is None or not contents.is_first("customer", str(customer), row):

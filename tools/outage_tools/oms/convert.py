@@ -16,6 +16,7 @@ import re
 from collections.abc import Iterable, Iterator
 from contextlib import ExitStack
 from dataclasses import dataclass, field
+from itertools import chain, islice
 from pathlib import Path
 
 from outage_tools.cli import Once, Parser, add_table_arguments, print_error, run_job
@@ -29,6 +30,7 @@ from outage_tools.oms.conversion import Conversion
 from outage_tools.oms.fields import LATEST_MOMENT
 from outage_tools.oms.files import Export, Format, Row, add_format_arguments, format_of
 from outage_tools.oms.known import Known, known_of
+from outage_tools.oms.services import Meters
 from outage_tools.oms.steps import Step, StepReader, cancelled_words, ordinary_words
 from outage_tools.oms.writing import whole_file, whole_output
 from outage_tools.rows import Period, period_of
@@ -61,6 +63,7 @@ class Run:
     format: Format
     files: list[Notes] = field(default_factory=list)
     steps: list[Step] = field(default_factory=list)  # of outages, as far as they can be read
+    meters: Meters | None = None  # of single services, where the register has them
 
     def rows(self, export: str, columns: tuple[str, ...], required: tuple[str, ...]) -> tuple[Iterable[Row], Notes]:
         """The rows of an export, none where it isn't given, and the notes on them."""
@@ -79,9 +82,18 @@ class Run:
         grid = network.Network(conversion)
         if args.gis:
             yield from grid.read(*self.rows("gis", network.COLUMNS, network.REQUIRED))
-        people = customers.Customers(conversion, grid)
-        yield from people.read(*self.rows("customers", customers.COLUMNS, customers.REQUIRED))
+        register, register_notes = self.rows("customers", customers.COLUMNS, customers.REQUIRED)
+        register = iter(register)
+        begin = list(islice(register, 1))  # with it the columns are known
         rows, notes = self.rows("oms", outages.COLUMNS, outages.REQUIRED)
+        if "meter" in register_notes.columns:
+            rows = list(rows)
+            self.meters = Meters(conversion, grid)
+            self.meters.find(rows)
+        people = customers.Customers(conversion, grid, self.meters)
+        yield from people.read(chain(begin, register), register_notes)
+        if self.meters is not None:
+            self.meters.note(rows, notes)
         reader = StepReader(conversion, grid, found, args.prefix, args.crew)
         events = outages.Outages(conversion, grid, reader, args.overlaps == "join", notes)
         yield from events.commands(rows)
