@@ -5,8 +5,8 @@ at a moment, and another one begins under a further name; sections keep the name
 be said is refused by its row, or told.
 """
 
-from collections import defaultdict
-from collections.abc import Iterator
+from collections import Counter, defaultdict
+from collections.abc import Iterable, Iterator
 from dataclasses import dataclass, field, replace
 
 from outage_tools.keys import Keys
@@ -48,13 +48,30 @@ class There:
     customers: dict[int, Service] = field(default_factory=dict)
     dates: tuple[str, ...] = ()
     keys: Keys | None = None  # of the customers
+    supply: dict[str, str] = field(
+        default_factory=dict
+    )  # the section that supplies a service, by the one behind its meter
+
+    def take_meters(self, names: Iterable[str]) -> None:
+        """Finds the sections behind meters that are devices of the book (oms/services.py), by the names of the register's meters."""
+        count = Counter(end for ends in self.ends.values() for end in ends)
+        for name in names:
+            ends = self.ends.get(name, ())
+            behind = [end for end in ends if count[end] == 1]
+            if len(behind) == 1:
+                self.supply[behind[0]] = next(end for end in ends if end != behind[0])
+
+    def at_supply(self, service: Service) -> Service:
+        """The service at the section that supplies it, where it is behind its meter."""
+        return replace(service, section=self.supply.get(service.section, service.section))
 
     def service_of(self, customer: str) -> Service | None:
         """The service of a customer as the register calls it; of several under one key that of the second, else the last."""
         if self.keys is None:
-            return self.customers.get(int(customer)) if customer.isdecimal() else None
+            found = self.customers.get(int(customer)) if customer.isdecimal() else None
+            return None if found is None else self.at_supply(found)
         numbers = self.keys.numbers.get(customer, [])
-        services = [self.customers[number] for number in numbers if number in self.customers]
+        services = [self.at_supply(self.customers[number]) for number in numbers if number in self.customers]
         now = [each for each in services if each.since <= self.at and (each.until is None or self.at < each.until)]
         return next(iter([*now, *reversed(services)]), None)
 
@@ -132,7 +149,8 @@ class Change:
         devices = [row for each in self.model.devices for row in self.rows_of(each)]
         told = {row.name for row in devices}
         for name in self.there.devices:
-            if name not in told and self.there.devices[name].has(self.there.at):
+            is_meter = any(end in self.there.supply for end in self.there.ends[name])
+            if name not in told and not is_meter and self.there.devices[name].has(self.there.at):
                 self.said.append(f"the device {name} isn't in the export any more, and ends")
                 devices.append(self.ended(name, name))
         self.model.devices = devices
@@ -162,7 +180,7 @@ class Change:
                 node = NodeRow(node.name, home)
             nodes.append(node)
         self.model.nodes = nodes
-        gone = self.there.nodes.keys() - {node.name for node in nodes}
+        gone = self.there.nodes.keys() - {node.name for node in nodes} - self.there.supply.keys()
         at = self.there.at
         for name in sorted(gone):
             services = [each for each in self.there.customers.values() if each.section == name]
