@@ -5,6 +5,8 @@ books=/var/lib/outagebook
 samples=/usr/share/doc/outagebook/examples
 saidi='SAIDI     all      4073935/20986 194.126'
 
+trap 'kill $(cat /root/*.pid 2> /dev/null) 2> /dev/null; wait' EXIT
+
 fail() { # TEXT
     echo "packages: $1" >&2
     exit 1
@@ -37,19 +39,22 @@ answers() { # PORT: a desk and its screen, started by their units, answer: the s
     python3 - "$1" << 'END' || fail 'desk and screen do not answer'
 import json, sys, time, urllib.request
 def text(url):
+    asked = urllib.request.Request(url, headers={"Host": "screen.example.org", "X-Remote-User": "desk-anna"})
     for turn in range(120):
         try:
-            return urllib.request.urlopen(url).read().decode()
-        except OSError:
+            return urllib.request.urlopen(asked).read().decode()
+        except OSError as error:
+            why = error
             time.sleep(0.5)
-    sys.exit(1)
+    sys.exit(f"{url}: {why}")
 assert "4073935/20986" in text(f"http://127.0.0.1:{sys.argv[1]}/table")
 health = json.loads(text("http://127.0.0.1:8081/health"))
 assert health["desk"] == "here" and health["differs"] is None, health
 assert "<html" in text("http://127.0.0.1:8081/")
 END
     kill "$(cat /root/screen.pid)" "$(cat /root/desk.pid)"
-    wait
+    rm /root/screen.pid /root/desk.pid
+    while [ -n "$(find /proc -maxdepth 2 -name exe -lname '/usr/bin/outagebook' 2> /dev/null)" ]; do sleep 0.2; done
 }
 
 whole() { # the packages are there, each command with its help and its page, and the book has its figures
