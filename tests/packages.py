@@ -47,14 +47,16 @@ def codename() -> str:
 def try_packages(folder: Path) -> None:
     """Builds the packages of both versions and tries them."""
     for version in VERSIONS:
-        words = ["sh", ROOT / "packaging/build-packages", folder / version]
+        words: list[str | Path] = ["sh", ROOT / "packaging/build-packages", folder / version]
         step(f"built {version}", words, PROGRAM=str(PROGRAM), VERSION=version)
     looked = [*folder.glob(f"{VERSIONS[0]}/*.deb")]
     step("lintian", ["lintian", "--allow-root", "--fail-on", "error,warning", "--tag-display-limit", "0", *looked])
     copies = " ".join(str(path) for path in [*(folder / version for version in VERSIONS), ROOT / "tests/packages.sh"])
     hooks = [f"--customize-hook=copy-in {copies} /root", "--chrooted-customize-hook=sh /root/packages.sh"]
-    words = ["mmdebstrap", "--quiet", "--variant=minbase", *hooks, codename(), "/dev/null", *sources()]
-    step("a fresh root", words)
+    step(
+        "a fresh root",
+        ["mmdebstrap", "--quiet", "--variant=minbase", *hooks, codename(), "/dev/null", *sources()],
+    )
 
 
 def main() -> None:

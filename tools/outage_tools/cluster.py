@@ -11,6 +11,7 @@ import logging
 import os
 import tempfile
 import time
+import warnings
 from collections import deque
 from collections.abc import Callable, Generator, Iterator, Sequence
 from concurrent.futures import CancelledError
@@ -74,11 +75,13 @@ def files_of(path: str) -> Files:
 
 def asked_for(path: str, table: str | None, program: str, is_sent: bool) -> Asked:
     """What a worker has to know of a book. A program that is named by its path is there at the same path."""
-    files = files_of(path)
     try:
+        files = files_of(path)
         text = None if table is None else Path(table).read_bytes()
+    except BookError as error:
+        raise BookError(str(error) if path in str(error) else f"{path}: {error}") from None
     except OSError as error:
-        raise BookError(f"{table} can't be read as an annual table: {error.strerror}") from None
+        raise BookError(f"{path}: {error.filename}: {error.strerror}") from None
     there = os.path.abspath(program) if os.sep in program else program
     return Asked(path, files.digest, text, there, tools_sum(), files if is_sent else None)
 
@@ -128,6 +131,7 @@ def new_client(address: str) -> Any:
     except ImportError:
         raise BookError("--cluster needs python3-distributed, which isn't installed") from None
     logging.getLogger("distributed").setLevel(logging.CRITICAL)
+    warnings.filterwarnings("ignore", message="Large object")  # a book that is sent
     try:
         return distributed.Client(address, timeout=CONNECT)
     except ValueError as error:
