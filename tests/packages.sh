@@ -5,7 +5,7 @@ books=/var/lib/outagebook
 samples=/usr/share/doc/outagebook/examples
 saidi='SAIDI     all      4073935/20986 194.126'
 
-trap 'kill $(cat /root/*.pid 2> /dev/null) 2> /dev/null; wait' EXIT
+trap 'kill $(cat /root/*.pid 2> /dev/null) 2> /dev/null || true; wait' EXIT
 
 fail() { # TEXT
     echo "packages: $1" >&2
