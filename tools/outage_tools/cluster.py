@@ -30,6 +30,7 @@ Told = tuple[str, Result | None, str]  # what was wrong ("" if nothing), the res
 
 PATIENCE = 60.0  # seconds for a scheduler or a first worker to come
 CONNECT = 5.0  # seconds for one try to reach the scheduler
+LONGEST = 300.0  # seconds for a result to come over the network
 STEP = 1.0  # seconds between looks at what has ended
 ABSENT = "absent"  # the book doesn't lie there
 
@@ -130,7 +131,8 @@ def new_client(address: str) -> Any:
         import distributed
     except ImportError:
         raise BookError("--cluster needs python3-distributed, which isn't installed") from None
-    logging.getLogger("distributed").setLevel(logging.CRITICAL)
+    for name in ("distributed", "distributed.client", "asyncio", "tornado"):  # what is lost is asked for again
+        logging.getLogger(name).setLevel(logging.CRITICAL)
     warnings.filterwarnings("ignore", message="Large object")  # a book that is sent
     try:
         return distributed.Client(address, timeout=CONNECT)
@@ -138,13 +140,28 @@ def new_client(address: str) -> Any:
         raise BookError(f"{address} is no address of a cluster: {error}") from None
 
 
+class Scheduler:
+    """A scheduler as it was found; another one at its address knows nothing of what was asked for."""
+
+    def __init__(self, client: Any):
+        self.client = client
+        self.number = client.scheduler_info().get("id")
+
+    def threads(self) -> int:
+        """How many threads its workers have."""
+        told_of = self.client.scheduler_info()
+        if self.client.status != "running" or told_of.get("id") != self.number:
+            raise Away("the scheduler ended")
+        return sum(int(worker["nthreads"]) for worker in told_of["workers"].values())
+
+
 @contextmanager
-def connected(address: str) -> Iterator[Any]:
-    """A client of the scheduler; `Away` if it isn't there or goes away."""
+def connected(address: str) -> Iterator[Scheduler]:
+    """The scheduler at an address; `Away` if it isn't there or goes away."""
     client = None
     try:
         client = new_client(address)
-        yield client
+        yield Scheduler(client)
     except (OSError, TimeoutError, CancelledError) as error:
         raise Away(str(error)) from None
     finally:
@@ -175,39 +192,41 @@ class OnCluster(Generic[Result]):
         more = f" and {len(places) - 1} more" if len(places) > 1 else ""
         return f"{self.paths[places[0]]}{more}"
 
-    def ask(self, client: Any) -> int:
+    def ask(self, scheduler: Scheduler) -> int:
         """Asks for as many books as keep all workers busy: how many threads they have."""
-        threads = sum(int(count) for count in client.nthreads().values())
+        threads = scheduler.threads()
         while self.waiting and len(self.going) < 2 * threads:
             place = self.waiting[0]
             asked = asked_for(self.paths[place], self.tables[place], self.program, place in self.sent)
-            future = client.submit(work_here, self.told, asked, pure=False)
+            future = scheduler.client.submit(work_here, self.told, asked, pure=False)
             self.going[future] = self.waiting.popleft()
         return threads
 
-    def look(self) -> list[int]:
+    def look(self) -> Iterator[int]:
         """Waits for a moment: the books whose work has ended."""
         from distributed import wait
 
         if self.going:
             with suppress(TimeoutError, CancelledError):
                 wait([*self.going], timeout=STEP, return_when="FIRST_COMPLETED")
-        ended = [future for future in self.going if future.status != "pending"]
-        return [place for future in ended if (place := self.take(future, self.going.pop(future))) is not None]
+        for future in [future for future in self.going if future.status != "pending"]:
+            answer = self.answer_of(future)
+            place = self.going.pop(future)
+            if answer is not None and answer[0] != ABSENT:
+                self.ended[place] = answer
+                yield place
+                continue
+            self.waiting.appendleft(place)
+            if answer is not None:
+                self.sent.add(place)
 
-    def take(self, future: Any, place: int) -> int | None:
-        """Keeps what came of a book; one that doesn't lie there, or whose work was lost, waits again."""
+    def answer_of(self, future: Any) -> Told[Result] | None:
+        """What came of a book; None if its work was lost."""
         if future.status == "error":
-            self.ended[place] = "error", None, f"the cluster: {type(future.exception()).__name__}: {future.exception()}"
-            return place
-        answer: Told[Result] = (ABSENT, None, "") if future.status != "finished" else future.result()
-        if answer[0] != ABSENT:
-            self.ended[place] = answer
-            return place
-        if future.status == "finished":
-            self.sent.add(place)
-        self.waiting.appendleft(place)
-        return None
+            error = future.exception(LONGEST)
+            return "error", None, f"the cluster: {type(error).__name__}: {error}"
+        answer: Told[Result] | None = future.result(LONGEST) if future.status == "finished" else None
+        return answer
 
     def lose_all(self) -> None:
         """All that is worked on waits again."""
@@ -221,9 +240,9 @@ def results_on(address: str, work: OnCluster[Result]) -> Generator[tuple[int, To
     while not work.is_done:
         why = "has no worker"
         try:
-            with connected(address) as client:
+            with connected(address) as scheduler:
                 while not work.is_done and time.monotonic() - last < PATIENCE:
-                    if work.ask(client):
+                    if work.ask(scheduler):
                         last = time.monotonic()
                     if not work.going:
                         time.sleep(STEP)

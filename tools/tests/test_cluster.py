@@ -172,7 +172,7 @@ class TheSameAnswer(unittest.TestCase):
         return child
 
     def assert_sum(self, child: "subprocess.Popen[str]") -> None:
-        said, complaint = child.communicate(timeout=STARTS_IN * 2)
+        said, complaint = child.communicate(timeout=STARTS_IN * 5)
         self.assertEqual((child.returncode, complaint), (0, ""))
         self.assertEqual(said, run("sum", *with_tables(books())).stdout)
 
