@@ -1,11 +1,11 @@
 """The sum of many books on three hosts: it is that of one machine, also if a worker is killed meanwhile; and its times.
 
-    python3 tests/cluster_hosts.py FOLDER [--districts 12] [--customers 20000] [--entries 2000] [--made 4]
+    python3 tests/cluster_hosts.py FOLDER [--districts 12] [--customers 20000] [--entries 2000] [--made 4] [--plain]
 
 Each host is a network namespace, joined to this one by a bridge, with one worker on a processor of its own. The books of
-FOLDER, made there if they are missing (benches/many_books.py), lie on the first host; the others see an empty folder, so
-the books are sent to them. OUTAGEBOOK names the program. It needs root, iproute2 and python3-distributed, and ends with 1
-if a sum differs.
+FOLDER, made there with their tables if they are missing (benches/many_books.py), lie on the first host; the others see an
+empty folder, so the books are sent to them. The tables are given, so the times are the tools' own. It needs root,
+iproute2 and python3-distributed, and ends with 1 if a sum differs.
 """
 
 from __future__ import annotations
@@ -58,7 +58,7 @@ def add_host(stack: ExitStack, number: int) -> str:
 
 def start(stack: ExitStack, words: list[str]) -> "subprocess.Popen[bytes]":
     """A process that ends with the block."""
-    environment = {**os.environ, "PYTHONPATH": str(ROOT / "tools"), "PATH": f"{PROGRAM.parent}:{os.environ['PATH']}"}
+    environment = {**os.environ, "PYTHONPATH": str(ROOT / "tools")}
     child = subprocess.Popen(words, env=environment, stdout=subprocess.DEVNULL, stderr=subprocess.DEVNULL)
     stack.callback(child.wait)
     stack.callback(child.kill)
@@ -82,7 +82,8 @@ def wait_for_workers(count: int) -> None:
 
 def sum_words(folder: Path, districts: int, *more: str) -> list[str]:
     books = [str(folder / f"d{number}.db") for number in range(1, districts + 1)]
-    return [PYTHON, str(ROOT / "tools/sum.py"), *books, "--own-numbers", "--program", str(PROGRAM), *more]
+    tables = [word for number in range(1, districts + 1) for word in ("--table", str(folder / f"d{number}.txt"))]
+    return [PYTHON, str(ROOT / "tools/sum.py"), *books, *tables, "--own-numbers", *more]
 
 
 def timed_sum(folder: Path, districts: int, *more: str) -> tuple[str, float]:
@@ -128,11 +129,12 @@ def main() -> None:
     words.add_argument("--customers", type=int, default=20_000)
     words.add_argument("--entries", type=int, default=2_000)
     words.add_argument("--made", type=int, default=4, help="so many books are made, the others are copies of them")
+    words.add_argument("--plain", action="store_true", help="make the books by the plain office")
+    words.add_argument("--program", default=PROGRAM, help="what makes the books, and prints their tables")
     given = words.parse_args()
     if os.geteuid() or not shutil.which("ip"):
         sys.exit("cluster_hosts: it needs root and iproute2")
     given.folder.mkdir(parents=True, exist_ok=True)
-    given.plain, given.program = False, PROGRAM
     make_books(given.folder, given.districts, given)
     try_hosts(given.folder.resolve(), given.districts)
 
