@@ -52,7 +52,7 @@ def try_packages(folder: Path) -> None:
     looked = [*folder.glob(f"{VERSIONS[0]}/*.deb")]
     step("lintian", ["lintian", "--allow-root", "--fail-on", "error,warning", "--tag-display-limit", "0", *looked])
     copies = " ".join(str(path) for path in [*(folder / version for version in VERSIONS), ROOT / "tests/packages.sh"])
-    hooks = [f"--customize-hook=copy-in {copies} /root", "--chrooted-customize-hook=sh /root/packages.sh"]
+    hooks = [f"--customize-hook=copy-in {copies} /srv", "--chrooted-customize-hook=sh /srv/packages.sh"]
     step(
         "a fresh root",
         ["mmdebstrap", "--quiet", "--variant=minbase", *hooks, codename(), "/dev/null", *sources()],

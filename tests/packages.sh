@@ -1,11 +1,11 @@
-# What packages.py does in a fresh root of Debian, as root: /root/2+1 and /root/2+2 are the packages of two versions.
+# What packages.py does in a fresh root of Debian, as root: /srv/2+1 and /srv/2+2 are the packages of two versions.
 set -eu
 export DEBIAN_FRONTEND=noninteractive LC_ALL=C.UTF-8
 books=/var/lib/outagebook
 samples=/usr/share/doc/outagebook/examples
 saidi='SAIDI     all      4073935/20986 194.126'
 
-trap 'kill $(cat /root/*.pid 2> /dev/null) 2> /dev/null || true; wait' EXIT
+trap 'kill $(cat /srv/*.pid 2> /dev/null) 2> /dev/null || true; wait' EXIT
 
 fail() { # TEXT
     echo "packages: $1" >&2
@@ -13,8 +13,8 @@ fail() { # TEXT
 }
 
 apt_get() { # WORDS ..
-    apt-get --yes --no-install-recommends "$@" > /root/apt.log 2>&1 || {
-        tail -n 40 /root/apt.log
+    apt-get --yes --no-install-recommends "$@" > /srv/apt.log 2>&1 || {
+        tail -n 40 /srv/apt.log
         fail "apt-get $*"
     }
 }
@@ -34,8 +34,8 @@ start_unit() { # UNIT PIDFILE: runs what a unit starts, with what it reads
 }
 
 answers() { # PORT: a desk and its screen, started by their units, answer: the screen at 8081 and the desk at PORT
-    start_unit outagebook.service /root/desk.pid
-    start_unit outagebook-screen.service /root/screen.pid
+    start_unit outagebook.service /srv/desk.pid
+    start_unit outagebook-screen.service /srv/screen.pid
     python3 - "$1" << 'END' || fail 'desk and screen do not answer'
 import json, sys, time, urllib.request
 def text(url):
@@ -52,8 +52,8 @@ health = json.loads(text("http://127.0.0.1:8081/health"))
 assert health["desk"] == "here" and health["differs"] is None, health
 assert "<html" in text("http://127.0.0.1:8081/")
 END
-    kill "$(cat /root/screen.pid)" "$(cat /root/desk.pid)"
-    rm /root/screen.pid /root/desk.pid
+    kill "$(cat /srv/screen.pid)" "$(cat /srv/desk.pid)"
+    rm /srv/screen.pid /srv/desk.pid
     while [ -n "$(find /proc -maxdepth 2 -name exe -lname '/usr/bin/outagebook' 2> /dev/null)" ]; do sleep 0.2; done
 }
 
@@ -73,7 +73,7 @@ gone() { # nothing of the programs is left
 }
 
 echo '== installed'
-apt_get install /root/2+1/*.deb
+apt_get install /srv/2+1/*.deb
 [ "$(stat -c '%U %G %a' $books)" = 'outagebook outagebook 700' ] || fail "$books: $(stat -c '%U %G %a' $books)"
 [ "$(getent passwd outagebook | cut -d: -f6-7)" = "$books:/usr/sbin/nologin" ] || fail 'the user of the books'
 at_books "outagebook init --first 2025-03-24 --days 14 --zone CET-1CEST,M3.5.0,M10.5.0/3" | grep -qx created
@@ -83,7 +83,7 @@ answers 8080
 
 echo '== upgraded'
 sed -i 's/^PORT=.*/PORT=8090/' /etc/default/outagebook
-apt_get install /root/2+2/*.deb
+apt_get install /srv/2+2/*.deb
 [ "$(dpkg-query -f '${Version} ' -W outagebook outagebook-tools outagebook-screen)" = '2+2 2+2 2+2 ' ] || fail 'versions'
 whole
 answers 8090
@@ -101,7 +101,7 @@ gone
 [ "$(stat -c '%U %a' $books/book.db)" = 'outagebook 600' ] || fail 'the book is lost, or nobody has it'
 
 echo '== installed again: the book is there, in its place'
-apt_get install /root/2+2/*.deb
+apt_get install /srv/2+2/*.deb
 whole
 
 echo '== purged without a book'
