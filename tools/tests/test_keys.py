@@ -304,7 +304,7 @@ class Packed(WithBook):
 
     def test_forged_keys(self) -> None:
         for old, new, why in (
-            (f"3,{key_of(5003)}", f"3,{key_of(5003)}X", "row 3: the customer 3 came by another key"),
+            (f"3,{key_of(5003)}", f"3,{key_of(5003)[:-1]}9", "row 3: the customer 3 came by another key"),
             (f"3,{key_of(5003)}\n", "", "no row has the number 3"),
             (f"3,{key_of(5003)}\n", f"3,{key_of(5003)}\n99,NOBODY\n", "the book has no customer 99"),
         ):
