@@ -12,6 +12,7 @@ from outage_tools.counts import SETS, fraction_text
 from outage_tools.errors import BookError
 from outage_tools.indices import Loads, computed, loads_of, meaning_of, momentary_events, read_hours
 from outage_tools.sums import add_up, district_of
+from outage_tools.supply import sweep
 from tests import many_books, support
 from tests.many_books import books_of, district_rows, opened, parts_of, run, table_of
 
@@ -31,12 +32,10 @@ def lengths_of_customers(found: Checked, unmarked: bool) -> list[list[int]]:
 
 
 def parts_of_customers(found: Checked) -> list[list[tuple[int, int]]]:
-    """The interruptions of each customer, found one customer after another."""
-    customers = []
+    """The interruptions of each customer, found one customer after another by the tests' own walk."""
+    customers, runs = [], sweep(found.book)
     for section, since, until in found.database.execute("SELECT section, since, until FROM customer"):
-        parts = [
-            (max(run.since, since), min(run.until, until or run.until)) for run in found.runs if run.section == section
-        ]
+        parts = [(max(run.since, since), min(run.until, until or run.until)) for run in runs if run.section == section]
         customers.append([part for part in parts if part[0] < part[1]])
     return customers
 
