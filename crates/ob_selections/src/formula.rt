@@ -1,0 +1,241 @@
+//! Indices as data: each a quotient of measures under a name.
+ghost use Rattle.std.specs.Prelude.{◌≡◌, ◌≤◌, ◌<◌, ◌^◌, slice_index_or};
+ghost use Rattle.ob_index.specs.Short.{IsShort};
+ghost use Rattle.ob_selections.specs.Formulas.{divided as divided_by, divisor as divisor_of, index_of as index_among, measured as measure_of, value_of as value_by};
+ghost use Rattle.ob_selections.specs.Sums.{AreAtMost};
+
+use crate::figures::Figures;
+use ob_index::laws::quotient_law;
+use ob_index::{Fraction, reduced};
+
+/// What an index divides, or is divided by.
+#[derive(Clone, Copy)]
+pub enum Measure {
+    /// Sustained interruptions (CI).
+    Sustained,
+    /// Customer-seconds of the sustained interruptions (CSI).
+    SustainedSeconds,
+    /// Customers with this many sustained interruptions and one more, or more (CN_n).
+    Interrupted(u8),
+    /// Momentary interruptions (MI).
+    Momentary,
+    /// Customer-seconds in service (S).
+    Service,
+    /// Customer-seconds in service outside sustained interruptions (S - CSI).
+    Served,
+}
+
+/// A quotient of measures.
+#[derive(Clone, Copy)]
+pub struct Formula {
+    /// What is divided.
+    pub numerator: Measure,
+    /// Whether the numerator is taken times the seconds of the days (P).
+    pub of_period: bool,
+    /// What it is divided by.
+    pub denominator: Measure,
+    /// A factor of the denominator: 60 for minutes, else 1.
+    pub scale: u8,
+    /// How many decimals are shown, 0 to 5.
+    pub places: u8,
+}
+
+// So many of a measure for each customer served, S / P.
+const PER_CUSTOMER: Formula = Formula {
+    numerator: Measure::Sustained,
+    of_period: true,
+    denominator: Measure::Service,
+    scale: 1,
+    places: 3,
+};
+
+/// The indices of a selection, each under its name.
+pub const LISTED: [(&'static str, Formula); 16] = [
+    ("saifi", PER_CUSTOMER),
+    (
+        "saidi",
+        Formula {
+            numerator: Measure::SustainedSeconds,
+            scale: 60,
+            ..PER_CUSTOMER
+        },
+    ),
+    (
+        "caidi",
+        Formula {
+            numerator: Measure::SustainedSeconds,
+            of_period: false,
+            denominator: Measure::Sustained,
+            scale: 60,
+            ..PER_CUSTOMER
+        },
+    ),
+    (
+        "caifi",
+        Formula {
+            of_period: false,
+            denominator: Measure::Interrupted(0),
+            ..PER_CUSTOMER
+        },
+    ),
+    (
+        "asai",
+        Formula {
+            numerator: Measure::Served,
+            of_period: false,
+            places: 5,
+            ..PER_CUSTOMER
+        },
+    ),
+    (
+        "cemi_1",
+        Formula {
+            numerator: Measure::Interrupted(0),
+            ..PER_CUSTOMER
+        },
+    ),
+    (
+        "cemi_2",
+        Formula {
+            numerator: Measure::Interrupted(1),
+            ..PER_CUSTOMER
+        },
+    ),
+    (
+        "cemi_3",
+        Formula {
+            numerator: Measure::Interrupted(2),
+            ..PER_CUSTOMER
+        },
+    ),
+    (
+        "cemi_4",
+        Formula {
+            numerator: Measure::Interrupted(3),
+            ..PER_CUSTOMER
+        },
+    ),
+    (
+        "cemi_5",
+        Formula {
+            numerator: Measure::Interrupted(4),
+            ..PER_CUSTOMER
+        },
+    ),
+    (
+        "cemi_6",
+        Formula {
+            numerator: Measure::Interrupted(5),
+            ..PER_CUSTOMER
+        },
+    ),
+    (
+        "cemi_7",
+        Formula {
+            numerator: Measure::Interrupted(6),
+            ..PER_CUSTOMER
+        },
+    ),
+    (
+        "cemi_8",
+        Formula {
+            numerator: Measure::Interrupted(7),
+            ..PER_CUSTOMER
+        },
+    ),
+    (
+        "cemi_9",
+        Formula {
+            numerator: Measure::Interrupted(8),
+            ..PER_CUSTOMER
+        },
+    ),
+    (
+        "cemi_10",
+        Formula {
+            numerator: Measure::Interrupted(9),
+            ..PER_CUSTOMER
+        },
+    ),
+    (
+        "maifi",
+        Formula {
+            numerator: Measure::Momentary,
+            ..PER_CUSTOMER
+        },
+    ),
+];
+
+/// The value of an index. `None` if it divides by 0, or if it asks for all days of the period and
+/// the figures are of some days only.
+pub fn index_of(formula: &Formula, figures: &Figures, all_days: bool) -> Option<Fraction>
+    requires small { AreAtMost (2 ^ 52) figures.now }
+    requires short { figures.now.length < 2 ^ 25 }
+    ensures value { result ≡ index_among all_days figures.now formula.now }
+    ensures short { IsShort result }
+{
+    match formula.numerator {
+        Measure::Served if !all_days => None,
+        _ => value_of(formula, figures),
+    }
+}
+
+// The value of an index; `None` if it divides by 0.
+fn value_of(formula: &Formula, figures: &Figures) -> Option<Fraction>
+    requires small { AreAtMost (2 ^ 52) figures.now }
+    requires short { figures.now.length < 2 ^ 25 }
+    ensures value { result ≡ value_by formula.now figures.now }
+    ensures short { IsShort result }
+{
+    // This call's contract states that a quotient is one fraction, and how large its numbers are.
+    quotient_law();
+    reduced(divided(formula, figures), divisor(formula, figures))
+}
+
+fn divided(formula: &Formula, figures: &Figures) -> u128
+    requires small { AreAtMost (2 ^ 52) figures.now }
+    requires short { figures.now.length < 2 ^ 25 }
+    ensures value { result ≡ divided_by figures.now formula.now }
+    ensures small { result < 2 ^ 100 }
+{
+    let measure = measured(formula.numerator, figures);
+    if formula.of_period {
+        measure * u128::from(figures.length)
+    } else {
+        measure
+    }
+}
+
+fn divisor(formula: &Formula, figures: &Figures) -> u128
+    requires small { AreAtMost (2 ^ 52) figures.now }
+    ensures value { result ≡ divisor_of figures.now formula.now }
+    ensures small { result < 2 ^ 100 }
+{
+    u128::from(formula.scale) * measured(formula.denominator, figures)
+}
+
+fn measured(measure: Measure, figures: &Figures) -> u128
+    requires small { AreAtMost (2 ^ 52) figures.now }
+    ensures value { result ≡ measure_of figures.now measure }
+    ensures small { result ≤ 2 ^ 52 }
+{
+    let counts = &figures.counts;
+    u128::from(match measure {
+        Measure::Sustained => counts.ci,
+        Measure::SustainedSeconds => counts.csi,
+        Measure::Interrupted(place) => interrupted(&counts.cn_n, place),
+        Measure::Momentary => counts.mi,
+        Measure::Service => figures.served,
+        Measure::Served => figures.served.saturating_sub(counts.csi),
+    })
+}
+
+// The customers at a place of CN_n; 0 past its end.
+fn interrupted(customers: &[u64; 10], place: u8) -> u64
+    ensures { result ≡ slice_index_or customers.now place 0 }
+{
+    match customers.get(usize::from(place)) {
+        Some(customers) => *customers,
+        None => 0,
+    }
+}

@@ -1,0 +1,74 @@
+//! The indices of a book by feeder, month, cause or section, as CSV.
+ghost use Rattle.std.specs.Prelude.{◌≡◌, ◌++◌, IfErr, IfOk, OnOk};
+ghost use Rattle.std.specs.List.{flat_map};
+ghost use Rattle.ob_base.specs.Stop.{out_of_memory};
+ghost use Rattle.ob_selections.specs.IndexText.{indices_text_of, key_lines};
+ghost use Rattle.ob_selections.specs.Listed.{selections_by};
+ghost use Rattle.ob_selections.specs.Selections.{IsSelection};
+
+use crate::keyed::{Keyed, places_of, selection_at};
+use crate::line::{push_header, push_selection};
+use crate::selection::{By, Selection};
+use ob_base::{Second, Stop};
+use ob_book::Book;
+use ob_index::Which;
+use ob_sweep::Timeline;
+use std::alloc::Global;
+
+/// The indices of a book as CSV, where an interruption of at most `longest` seconds is momentary
+/// and a longer one is sustained: the names of the columns, and then two lines for each feeder,
+/// month, cause or section, over all interruptions and over those that don't begin on a major event
+/// day. The error is a failed allocation.
+pub fn indices_text<T: Timeline>(
+    alloc: Global,
+    book: &Book<T>,
+    by: By,
+    longest: Second,
+) -> Result<Vec<u8>, Stop>
+    ensures text { IfOk result (λ text. text.items ≡ indices_text_of book.now.state by longest) }
+    ensures err { IfErr result (λ e. e ≡ out_of_memory) }
+{
+    let mut text = Vec::new(alloc);
+    push_header(&mut text)?;
+    push_all(alloc, &mut text, book, by, longest)?;
+    Ok(text)
+}
+
+// Appends the lines of all selections.
+fn push_all<T: Timeline>(
+    alloc: Global,
+    text: &mut Vec<u8>,
+    book: &Book<T>,
+    by: By,
+    longest: Second,
+) -> Result<(), Stop>
+    ensures ok { OnOk result (text.new.items ≡ text.old.items
+        ++ flat_map (key_lines book.now.state) (selections_by book.now.state by longest)) }
+    ensures err { IfErr result (λ e. e ≡ out_of_memory) }
+{
+    for place in 0..places_of(book, by) {
+        if let Some(keyed) = selection_at(alloc, book, by, longest, place)? {
+            push_both(text, book, &keyed)?;
+        }
+    }
+    Ok(())
+}
+
+// Appends the lines of a key.
+fn push_both<T: Timeline>(text: &mut Vec<u8>, book: &Book<T>, keyed: &Keyed) -> Result<(), Stop>
+    requires { IsSelection book.now.state keyed.now.selection }
+    ensures ok { OnOk result (text.new.items ≡ text.old.items
+        ++ key_lines book.now.state (keyed.now.key.items, keyed.now.selection)) }
+    ensures err { IfErr result (λ e. e ≡ out_of_memory) }
+{
+    let all = Selection {
+        which: Which::All,
+        ..keyed.selection
+    };
+    let unmarked = Selection {
+        which: Which::Unmarked,
+        ..keyed.selection
+    };
+    push_selection(text, book, &keyed.key, &all)?;
+    push_selection(text, book, &keyed.key, &unmarked)
+}
