@@ -1,0 +1,8 @@
+mod Added
+mod Bounds
+mod Growing
+mod Prefixes
+mod Summed
+mod Tallied
+mod Texts
+mod Whole

@@ -13,6 +13,7 @@ use Rattle.ob_index.specs.declared.figures.Counts.{Counts}
 use Rattle.ob_index.specs.declared.figures.Which.{Which}
 use Rattle.ob_state.specs.State.{BookState}
 use Rattle.ob_rows.specs.Rows.{posted_cause}
+use Rattle.ob_selections.specs.declared.figures.Figures.{Figures}
 use Rattle.ob_selections.specs.declared.selection.Selection.{Selection}
 
 -- all interruptions that count among these, of all customers and days, where so many seconds are the longest momentary one
@@ -92,3 +93,7 @@ service_in i roll = sum_by (λ c. count_by (in_service c) (seconds i.since i.unt
 -- the customer-seconds in service of the selection's customers on its days
 abbrev pub service_of_selection : BookState → Selection → ℕ
 service_of_selection b x = service_in (days_of_selection b x) (filter (λ c. has_section b x c.section) b.customers)
+
+-- the figures of a selection
+abbrev pub figures_of_selection : BookState → Selection → Figures
+figures_of_selection b x = record { counts = counts_of_selection b x; served = service_of_selection b x; length = length_of_selection b x }

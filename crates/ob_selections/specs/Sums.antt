@@ -1,15 +1,11 @@
 -- The figures of a selection, as sums of the tallies of its customers.
-use Rattle.std.specs.Prelude.{◌≡◌, ◌≤◌, ◌<◌, ℕ, ◌+◌, length, slice_index}
-use Rattle.ob_state.specs.State.{BookState}
-use Rattle.ob_selections.specs.Selections.{counts_of_selection, length_of_selection, service_of_selection}
-use Rattle.ob_selections.specs.Tallies.{at_least}
+use Rattle.std.specs.Prelude.{◌≡◌, ◌≤◌, ◌<◌, ℕ, ◌+◌, if◌then◌else◌, length, nat_le, slice_index}
 use Rattle.ob_selections.specs.declared.figures.Figures.{Figures}
-use Rattle.ob_selections.specs.declared.selection.Selection.{Selection}
-use Rattle.ob_selections.specs.declared.tally.Tally.{Tally}
+use Rattle.ob_selections.specs.declared.figures.Tally.{Tally}
 
--- the figures of a selection
-abbrev pub figures_of_selection : BookState → Selection → Figures
-figures_of_selection b x = record { counts = counts_of_selection b x; served = service_of_selection b x; length = length_of_selection b x }
+-- one where there are n or more sustained interruptions
+abbrev pub at_least : ℕ → Tally → ℕ
+at_least n t = if nat_le n t.sustained then 1 else 0
 
 -- the figures m are k with a sum more, which is given for each number of a tally
 pub record AreMore (total : (Tally → ℕ) → ℕ) (k m : Figures) : Type 0 where

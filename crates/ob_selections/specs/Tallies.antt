@@ -1,5 +1,5 @@
 -- What one customer adds to the figures of a selection.
-use Rattle.std.specs.Prelude.{ℕ, not, nat_le, List, if◌then◌else◌}
+use Rattle.std.specs.Prelude.{ℕ, not, List, if◌then◌else◌}
 use Rattle.std.specs.List.{filter, sum_by, count_by}
 use Rattle.ob_base.specs.Seconds.{seconds}
 use Rattle.ob_base.specs.declared.interval.Interval.{Interval}
@@ -14,7 +14,7 @@ use Rattle.ob_state.specs.State.{BookState}
 use Rattle.ob_rows.specs.Rows.{customer_with}
 use Rattle.ob_selections.specs.Selections.{days_of_selection, has_section, is_selected, lasts_longer, selected}
 use Rattle.ob_selections.specs.declared.selection.Selection.{Selection}
-use Rattle.ob_selections.specs.declared.tally.Tally.{Tally}
+use Rattle.ob_selections.specs.declared.figures.Tally.{Tally}
 
 -- the tally of interruptions, where so many seconds are the longest momentary one, with so many seconds of service
 abbrev pub tally : ℕ → List Interval → ℕ → Tally
@@ -40,7 +40,3 @@ customer_of c = customer_with c.section (service_of c.block)
 -- the same of a customer of a block of a section that is selected, by the outage intervals of the section
 abbrev pub tally_by_runs : BookState → Selection → List Run → SectionBlock → Tally
 tally_by_runs b x runs c = tally x.longest (filter (is_selected b x c.section) (parts_in_service (customer_of c) runs)) (service_on b x (customer_of c))
-
--- one where there are n or more sustained interruptions
-abbrev pub at_least : ℕ → Tally → ℕ
-at_least n t = if nat_le n t.sustained then 1 else 0

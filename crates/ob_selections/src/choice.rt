@@ -1,5 +1,5 @@
 //! Whether a section and an interruption are among those of a selection.
-ghost use Rattle.std.specs.Prelude.{◌≡◌, ◌≤◌, ◌<◌, Some};
+ghost use Rattle.std.specs.Prelude.{◌≡◌, ◌≤◌, ◌<◌, length};
 ghost use Rattle.ob_index.specs.Interruptions.{is_counted as is_counted_among, is_marked as begins_on_marked_day};
 ghost use Rattle.ob_net.specs.Network.{home_feeder};
 ghost use Rattle.ob_post.specs.SectionAmounts.{run_cause};
@@ -16,6 +16,7 @@ use ob_sweep::{Run, Timeline};
 
 /// Whether the customers of a section are among those of a selection.
 pub fn has_section<T: Timeline>(book: &Book<T>, selection: &Selection, section: u16) -> bool
+    requires { section < length book.now.state.network.nodes }
     ensures { result ≡ has_customers book.now.state selection.now section }
 {
     fits_section(selection.section, section)

@@ -1,11 +1,11 @@
 //! Counting the interruptions of a selection.
-ghost use Rattle.std.specs.Prelude.{◌≡◌, ◌≤◌, ◌<◌, ◌==◌, ◌+◌, ◌*◌, ◌^◌, length};
+ghost use Rattle.std.specs.Prelude.{◌≡◌, ℕ, ◌≤◌, ◌<◌, ◌==◌, ◌+◌, ◌*◌, ◌^◌, length};
 ghost use Rattle.std.specs.List.{All, AllPairs, filter, sum_by};
 ghost use Rattle.ob_index.specs.Interruptions.{duration};
 ghost use Rattle.ob_rows.specs.Outages.{IsOutage};
 ghost use Rattle.ob_time.specs.Calendar.{bound_of, day_count, end_second_of, first_second_of};
-ghost use Rattle.ob_selections.specs.Selections.{IsSelection, days_of_selection, has_section as has_customers};
-ghost use Rattle.ob_selections.specs.Sums.{AreAtMost, AreMore, figures_of_selection};
+ghost use Rattle.ob_selections.specs.Selections.{IsSelection, days_of_selection, figures_of_selection};
+ghost use Rattle.ob_selections.specs.Sums.{AreAtMost, AreMore};
 ghost use Rattle.ob_selections.specs.Tallies.{tally_by_runs, tally_of as tally_of_customer};
 
 use crate::choice::has_section;
@@ -28,6 +28,8 @@ pub fn figures_of<T: Timeline>(book: &Book<T>, selection: &Selection) -> Figures
     ensures small { AreAtMost (2 ^ 52) result }
     ensures short { result.length < 2 ^ 25 }
 {
+    // This call's contract states that the parts of the state fit together.
+    let _ = book.accepted();
     let days = days_of(book, selection);
     let mut figures = Figures {
         counts: Counts {
@@ -53,8 +55,8 @@ fn days_of<T: Timeline>(book: &Book<T>, selection: &Selection) -> Interval
     ensures rising { result.since ≤ result.until }
     ensures short { duration result < 2 ^ 25 }
 {
-    // This call's contract states how short the period is.
-    let _ = book.period().length();
+    // This call's contract states that the period's days rise, and how short it is.
+    let _ = book.accepted();
     Interval {
         since: bound(book.period(), selection.first),
         until: bound(book.period(), selection.end),

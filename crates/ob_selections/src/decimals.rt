@@ -1,7 +1,8 @@
 //! Fractions as decimals.
-ghost use Rattle.std.specs.Prelude.{◌≡◌, ◌++◌, ◌≤◌, ◌<◌, ◌+◌, ◌*◌, ◌^◌, replicate, IfErr, OnOk};
+ghost use Rattle.std.specs.Prelude.{◌≡◌, ℕ, ◌++◌, ◌≤◌, ◌<◌, ◌+◌, ◌*◌, ◌^◌, replicate, IfErr, OnOk};
 ghost use Rattle.ob_base.specs.Stop.{out_of_memory};
-ghost use Rattle.ob_selections.specs.IndexText.{decimals_text, number_field, padded, scaled as scaled_by};
+ghost use Rattle.ob_selections.specs.Decimals.{decimals_text, padded, scaled as scaled_by};
+ghost use Rattle.ob_selections.specs.Lines.{number_field};
 
 use itoa::Buffer;
 use ob_base::Stop;

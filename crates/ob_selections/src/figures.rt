@@ -1,8 +1,7 @@
-//! The figures of a selection, and adding a tally to them.
-ghost use Rattle.std.specs.Prelude.{◌≡◌, ◌<◌, ◌+◌, ◌*◌, ◌^◌, if◌then◌else◌, length, nat_le, slice_index};
-ghost use Rattle.ob_selections.specs.Tallies.{at_least};
+//! The figures of a selection, and what one customer adds to them.
+ghost use Rattle.std.specs.Prelude.{◌≡◌, ℕ, ◌<◌, ◌+◌, ◌*◌, ◌^◌, if◌then◌else◌, length, nat_le, slice_index};
+ghost use Rattle.ob_selections.specs.Sums.{at_least};
 
-use crate::tally::Tally;
 use ob_index::Counts;
 
 /// The counts of a selection, and what its indices are over.
@@ -14,6 +13,19 @@ pub struct Figures {
     pub served: u64,
     /// The seconds of its days.
     pub length: u64,
+}
+
+/// What one customer adds to the figures of a selection.
+#[derive(Clone, Copy)]
+pub struct Tally {
+    /// Sustained interruptions.
+    pub sustained: u64,
+    /// Seconds of the sustained interruptions.
+    pub seconds: u64,
+    /// Momentary interruptions.
+    pub momentary: u64,
+    /// Seconds in service.
+    pub served: u64,
 }
 
 /// Adds a tally to the figures, once for each of `customers` customers.

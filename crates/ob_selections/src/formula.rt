@@ -1,5 +1,5 @@
 //! Indices as data: each a quotient of measures under a name.
-ghost use Rattle.std.specs.Prelude.{◌≡◌, ◌≤◌, ◌<◌, ◌^◌, slice_index_or};
+ghost use Rattle.std.specs.Prelude.{◌≡◌, ◌≤◌, ◌<◌, ◌^◌, ℕ, slice_index, slice_index_or};
 ghost use Rattle.ob_index.specs.Short.{IsShort};
 ghost use Rattle.ob_selections.specs.Formulas.{divided as divided_by, divisor as divisor_of, index_of as index_among, measured as measure_of, value_of as value_by};
 ghost use Rattle.ob_selections.specs.Sums.{AreAtMost};
@@ -198,7 +198,7 @@ fn divided(formula: &Formula, figures: &Figures) -> u128
     ensures value { result ≡ divided_by figures.now formula.now }
     ensures small { result < 2 ^ 100 }
 {
-    let measure = measured(formula.numerator, figures);
+    let measure = u128::from(measured(formula.numerator, figures));
     if formula.of_period {
         measure * u128::from(figures.length)
     } else {
@@ -211,31 +211,31 @@ fn divisor(formula: &Formula, figures: &Figures) -> u128
     ensures value { result ≡ divisor_of figures.now formula.now }
     ensures small { result < 2 ^ 100 }
 {
-    u128::from(formula.scale) * measured(formula.denominator, figures)
+    u128::from(formula.scale) * u128::from(measured(formula.denominator, figures))
 }
 
-fn measured(measure: Measure, figures: &Figures) -> u128
+fn measured(measure: Measure, figures: &Figures) -> u64
     requires small { AreAtMost (2 ^ 52) figures.now }
     ensures value { result ≡ measure_of figures.now measure }
     ensures small { result ≤ 2 ^ 52 }
 {
     let counts = &figures.counts;
-    u128::from(match measure {
+    match measure {
         Measure::Sustained => counts.ci,
         Measure::SustainedSeconds => counts.csi,
         Measure::Interrupted(place) => interrupted(&counts.cn_n, place),
         Measure::Momentary => counts.mi,
         Measure::Service => figures.served,
         Measure::Served => figures.served.saturating_sub(counts.csi),
-    })
+    }
 }
 
 // The customers at a place of CN_n; 0 past its end.
 fn interrupted(customers: &[u64; 10], place: u8) -> u64
-    ensures { result ≡ slice_index_or customers.now place 0 }
+    requires { (k : ℕ) → k < 10 → slice_index customers.now k ≤ 2 ^ 52 }
+    ensures value { result ≡ slice_index_or customers.now place 0 }
+    ensures small { result ≤ 2 ^ 52 }
 {
-    match customers.get(usize::from(place)) {
-        Some(customers) => *customers,
-        None => 0,
-    }
+    let place = usize::from(place);
+    if place < 10 { customers[place] } else { 0 }
 }

@@ -4,7 +4,7 @@ ghost use Rattle.ob_base.specs.Stop.{out_of_memory};
 ghost use Rattle.ob_book.specs.Views as views;
 ghost use Rattle.ob_index.specs.declared.figures.Which.TheVariants.{All};
 ghost use Rattle.ob_time.specs.Calendar.{day_count};
-ghost use Rattle.ob_selections.specs.Listed.{cause_selection, feeder_selection, month_selection, places_of as count_of_places, section_selection, selection_at as keyed_at};
+ghost use Rattle.ob_selections.specs.Listed.{Keyed as AKeyed, cause_selection, feeder_selection, month_selection, places_of as count_of_places, section_selection, selection_at as keyed_at};
 ghost use Rattle.ob_selections.specs.Selections.{IsSelection, whole};
 
 use crate::months::{begins_month, month_end, month_text};
@@ -81,8 +81,8 @@ fn whole_book<T: Timeline>(book: &Book<T>, longest: Second) -> Selection
 }
 
 fn under_key(alloc: Global, key: &[u8], selection: Selection) -> Result<Option<Keyed>, Stop>
-    ensures keyed { IfOk result (λ keyed. option_map (λ k. (k.key.items, k.selection)) keyed
-        ≡ Some (key.now, selection)) }
+    ensures keyed { let wanted : AKeyed = (key.now, selection) in IfOk result (λ keyed.
+        option_map (λ k. (k.key.items, k.selection)) keyed ≡ Some wanted) }
     ensures same { IfOk result (λ keyed. IfSome keyed (λ k. k.selection ≡ selection)) }
     ensures err { IfErr result (λ e. e ≡ out_of_memory) }
 {

@@ -5,21 +5,17 @@ ghost use Rattle.ob_base.specs.Stop.{out_of_memory};
 ghost use Rattle.ob_index.specs.Ratio.{fraction_text, quotient};
 ghost use Rattle.ob_index.specs.Short.{IsShort};
 ghost use Rattle.ob_selections.specs.Formulas.{listed};
-ghost use Rattle.ob_selections.specs.IndexText.{decimals_text, figures_line, header, index_columns, index_fields, number_field, quotient_fields, selection_line, set_word};
-ghost use Rattle.ob_selections.specs.Selections.{IsSelection, is_whole_period as is_whole};
+ghost use Rattle.ob_selections.specs.Decimals.{decimals_text};
+ghost use Rattle.ob_selections.specs.Lines.{figures_line, header, index_columns, index_fields, number_field, quotient_fields};
 ghost use Rattle.ob_selections.specs.Sums.{AreAtMost};
 
-use crate::counting::figures_of;
 use crate::decimals::{push_decimals, push_number};
 use crate::figures::Figures;
 use crate::formula::{Formula, LISTED, index_of};
-use crate::selection::Selection;
 use itoa::Buffer;
 use ob_base::Stop;
-use ob_book::Book;
 use ob_index::laws::quotient_law;
-use ob_index::{Fraction, Which, reduced};
-use ob_sweep::Timeline;
+use ob_index::{Fraction, reduced};
 
 // The names of the columns before those of the indices.
 const COLUMNS: &[u8] =
@@ -61,41 +57,8 @@ fn push_columns(text: &mut Vec<u8>, name: &str, formula: &Formula) -> Result<(),
     Ok(())
 }
 
-/// Appends the line of a selection under a key. The error is a failed allocation.
-pub fn push_selection<T: Timeline>(
-    text: &mut Vec<u8>,
-    book: &Book<T>,
-    key: &[u8],
-    selection: &Selection,
-) -> Result<(), Stop>
-    requires selection { IsSelection book.now.state selection.now }
-    ensures ok { OnOk result (text.new.items ≡ text.old.items
-        ++ selection_line book.now.state key.now selection.now) }
-    ensures err { IfErr result (λ e. e ≡ out_of_memory) }
-{
-    let figures = figures_of(book, selection);
-    let all_days = is_whole_period(book, selection);
-    push_line(text, key, word_of(selection.which), all_days, &figures)
-}
-
-// Whether the days of a selection are all days of the period.
-fn is_whole_period<T: Timeline>(book: &Book<T>, selection: &Selection) -> bool
-    ensures { result ≡ is_whole book.now.state selection.now }
-{
-    selection.first == 0 && selection.end == book.period().days()
-}
-
-fn word_of(which: Which) -> &'static [u8]
-    ensures { result.now ≡ set_word which }
-{
-    match which {
-        Which::All => b"all",
-        Which::Unmarked => b"unmarked",
-    }
-}
-
-// Appends the line of figures.
-fn push_line(
+/// Appends the line of the figures of a selection. The error is a failed allocation.
+pub fn push_line(
     text: &mut Vec<u8>,
     key: &[u8],
     set: &[u8],

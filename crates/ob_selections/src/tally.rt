@@ -1,5 +1,5 @@
 //! What the customers of one block add to the figures of a selection.
-ghost use Rattle.std.specs.Prelude.{◌≡◌, ◌≤◌, ◌<◌, ◌+◌, ◌-◌, ◌^◌, ◌&&◌, if◌then◌else◌, not, true};
+ghost use Rattle.std.specs.Prelude.{◌≡◌, ℕ, ◌≤◌, ◌<◌, ◌+◌, ◌-◌, ◌^◌, ◌&&◌, if◌then◌else◌, not, true};
 ghost use Rattle.std.specs.List.{All, AllPairs, count_by};
 ghost use Rattle.ob_base.specs.Seconds.{seconds};
 ghost use Rattle.ob_cust.specs.Service.{in_service};
@@ -12,24 +12,12 @@ ghost use Rattle.ob_selections.specs.Sums.{IsAtMost};
 ghost use Rattle.ob_selections.specs.Tallies.{customer_of, tally_by_runs};
 
 use crate::choice::is_selected;
+use crate::figures::Tally;
 use crate::selection::Selection;
 use ob_base::{Interval, Second};
 use ob_book::Book;
 use ob_cust::SectionBlock;
 use ob_sweep::{Run, Timeline};
-
-/// What one customer adds to the figures of a selection.
-#[derive(Clone, Copy)]
-pub struct Tally {
-    /// Sustained interruptions.
-    pub sustained: u64,
-    /// Seconds of the sustained interruptions.
-    pub seconds: u64,
-    /// Momentary interruptions.
-    pub momentary: u64,
-    /// Seconds in service.
-    pub served: u64,
-}
 
 /// Counts the selected interruptions of a customer of a block, from the outage intervals of its
 /// section, and its seconds in service on the days of the selection.

@@ -2,12 +2,13 @@
 ghost use Rattle.std.specs.Prelude.{◌≡◌, ◌++◌, IfErr, IfOk, OnOk};
 ghost use Rattle.std.specs.List.{flat_map};
 ghost use Rattle.ob_base.specs.Stop.{out_of_memory};
-ghost use Rattle.ob_selections.specs.IndexText.{indices_text_of, key_lines};
+ghost use Rattle.ob_selections.specs.IndexText.{indices_text_of, key_lines, selection_line, set_word};
 ghost use Rattle.ob_selections.specs.Listed.{selections_by};
-ghost use Rattle.ob_selections.specs.Selections.{IsSelection};
+ghost use Rattle.ob_selections.specs.Selections.{IsSelection, is_whole_period as is_whole};
 
+use crate::counting::figures_of;
 use crate::keyed::{Keyed, places_of, selection_at};
-use crate::line::{push_header, push_selection};
+use crate::line::{push_header, push_line};
 use crate::selection::{By, Selection};
 use ob_base::{Second, Stop};
 use ob_book::Book;
@@ -71,4 +72,37 @@ fn push_both<T: Timeline>(text: &mut Vec<u8>, book: &Book<T>, keyed: &Keyed) -> 
     };
     push_selection(text, book, &keyed.key, &all)?;
     push_selection(text, book, &keyed.key, &unmarked)
+}
+
+// Appends the line of a selection under a key.
+fn push_selection<T: Timeline>(
+    text: &mut Vec<u8>,
+    book: &Book<T>,
+    key: &[u8],
+    selection: &Selection,
+) -> Result<(), Stop>
+    requires selection { IsSelection book.now.state selection.now }
+    ensures ok { OnOk result (text.new.items ≡ text.old.items
+        ++ selection_line book.now.state key.now selection.now) }
+    ensures err { IfErr result (λ e. e ≡ out_of_memory) }
+{
+    let figures = figures_of(book, selection);
+    let all_days = is_whole_period(book, selection);
+    push_line(text, key, word_of(selection.which), all_days, &figures)
+}
+
+// Whether the days of a selection are all days of the period.
+fn is_whole_period<T: Timeline>(book: &Book<T>, selection: &Selection) -> bool
+    ensures { result ≡ is_whole book.now.state selection.now }
+{
+    selection.first == 0 && selection.end == book.period().days()
+}
+
+fn word_of(which: Which) -> &'static [u8]
+    ensures { result.now ≡ set_word which }
+{
+    match which {
+        Which::All => b"all",
+        Which::Unmarked => b"unmarked",
+    }
 }
