@@ -8,7 +8,7 @@ use Rattle.ob_selections.specs.declared.figures.Figures.{Figures}
 use Rattle.ob_selections.specs.declared.formula.Formula.{Formula}
 
 -- the names of the two columns of an index: its own, and with its number of decimals
-abbrev pub index_columns : List ℕ × Formula → List ℕ
+unfoldable pub index_columns : List ℕ × Formula → List ℕ
 index_columns named = 44 ∷ named.0 ++ 44 ∷ named.0 ++ 95 ∷ decimal named.1.places
 
 -- the names of the columns
@@ -27,12 +27,22 @@ abbrev pub number_field : ℕ → List ℕ
 number_field n = 44 ∷ decimal n
 
 -- the two fields of an index
-abbrev pub index_fields : Bool → Figures → List ℕ × Formula → List ℕ
+unfoldable pub index_fields : Bool → Figures → List ℕ × Formula → List ℕ
 index_fields all_days k named = quotient_fields named.1.places (index_of all_days k named.1)
 
--- a line: the key, the set, P, S, the customers served, CI, CSI, CN, MI, and each index
+-- the key and the set
+abbrev pub key_fields : List ℕ → List ℕ → List ℕ
+key_fields key set = key ++ 44 ∷ set
+
+-- P, S and the customers served
+abbrev pub service_fields : Figures → List ℕ
+service_fields k = number_field k.length ++ number_field k.served ++ quotient_fields 3 (quotient k.served k.length)
+
+-- CI, CSI, CN and MI
+abbrev pub count_fields : Figures → List ℕ
+count_fields k = number_field k.counts.ci ++ number_field k.counts.csi ++ number_field k.counts.cn ++ number_field k.counts.mi
+
+-- the line of figures under a key, which ends with LF
 abbrev pub figures_line : List ℕ → List ℕ → Bool → Figures → List ℕ
 figures_line key set all_days k =
-    key ++ 44 ∷ set ++ number_field k.length ++ number_field k.served ++ quotient_fields 3 (quotient k.served k.length)
-    ++ number_field k.counts.ci ++ number_field k.counts.csi ++ number_field k.counts.cn ++ number_field k.counts.mi
-    ++ flat_map (index_fields all_days k) listed ++ 10 ∷ []
+    key_fields key set ++ service_fields k ++ count_fields k ++ flat_map (index_fields all_days k) listed ++ 10 ∷ []

@@ -1,12 +1,12 @@
 //! The lines of the indices of selections in CSV.
-ghost use Rattle.std.specs.Prelude.{◌≡◌, ◌++◌, ◌∷◌, [], ◌≤◌, ◌<◌, ◌^◌, IfErr, OnOk};
+ghost use Rattle.std.specs.Prelude.{◌≡◌, ℕ, List, ◌++◌, ◌∷◌, [], ◌≤◌, ◌<◌, ◌^◌, IfErr, OnOk};
 ghost use Rattle.std.specs.List.{flat_map};
 ghost use Rattle.ob_base.specs.Stop.{out_of_memory};
 ghost use Rattle.ob_index.specs.Ratio.{fraction_text, quotient};
 ghost use Rattle.ob_index.specs.Short.{IsShort};
 ghost use Rattle.ob_selections.specs.Formulas.{listed};
 ghost use Rattle.ob_selections.specs.Decimals.{decimals_text};
-ghost use Rattle.ob_selections.specs.Lines.{figures_line, header, index_columns, index_fields, number_field, quotient_fields};
+ghost use Rattle.ob_selections.specs.Lines.{count_fields, figures_line, header, index_columns, index_fields, key_fields, quotient_fields, service_fields};
 ghost use Rattle.ob_selections.specs.Sums.{AreAtMost};
 
 use crate::decimals::{push_decimals, push_number};
@@ -43,6 +43,7 @@ fn push_index_columns(text: &mut Vec<u8>) -> Result<(), Stop>
 }
 
 // Appends the names of the two columns of an index.
+#[tactic(auto, unfolding(crate::specs::Lines::index_columns))]
 fn push_columns(text: &mut Vec<u8>, name: &str, formula: &Formula) -> Result<(), Stop>
     ensures ok { OnOk result (text.new.items ≡ text.old.items
         ++ index_columns (name.now, formula.now)) }
@@ -71,9 +72,7 @@ pub fn push_line(
         ++ figures_line key.now set.now all_days figures.now) }
     ensures err { IfErr result (λ e. e ≡ out_of_memory) }
 {
-    text.extend_from_slice(key)?;
-    text.push(b',')?;
-    text.extend_from_slice(set)?;
+    push_key(text, key, set)?;
     push_service(text, figures)?;
     push_counts(text, figures)?;
     push_indices(text, all_days, figures)?;
@@ -81,13 +80,22 @@ pub fn push_line(
     Ok(())
 }
 
+// Appends the key and the set.
+fn push_key(text: &mut Vec<u8>, key: &[u8], set: &[u8]) -> Result<(), Stop>
+    ensures ok { OnOk result (text.new.items ≡ text.old.items ++ key_fields key.now set.now) }
+    ensures err { IfErr result (λ e. e ≡ out_of_memory) }
+{
+    text.extend_from_slice(key)?;
+    text.push(b',')?;
+    text.extend_from_slice(set)?;
+    Ok(())
+}
+
 // Appends the seconds of the days, the customer-seconds in service and the customers served.
 fn push_service(text: &mut Vec<u8>, figures: &Figures) -> Result<(), Stop>
     requires small { AreAtMost (2 ^ 52) figures.now }
     requires short { figures.now.length < 2 ^ 25 }
-    ensures ok { OnOk result (text.new.items ≡ text.old.items
-        ++ number_field figures.now.length ++ number_field figures.now.served
-        ++ quotient_fields 3 (quotient figures.now.served figures.now.length)) }
+    ensures ok { OnOk result (text.new.items ≡ text.old.items ++ service_fields figures.now) }
     ensures err { IfErr result (λ e. e ≡ out_of_memory) }
 {
     push_number(text, figures.length)?;
@@ -109,9 +117,7 @@ fn customers_served(figures: &Figures) -> Option<Fraction>
 
 // Appends CI, CSI, CN and MI.
 fn push_counts(text: &mut Vec<u8>, figures: &Figures) -> Result<(), Stop>
-    ensures ok { OnOk result (text.new.items ≡ text.old.items
-        ++ number_field figures.now.counts.ci ++ number_field figures.now.counts.csi
-        ++ number_field figures.now.counts.cn ++ number_field figures.now.counts.mi) }
+    ensures ok { OnOk result (text.new.items ≡ text.old.items ++ count_fields figures.now) }
     ensures err { IfErr result (λ e. e ≡ out_of_memory) }
 {
     push_number(text, figures.counts.ci)?;
@@ -129,9 +135,27 @@ fn push_indices(text: &mut Vec<u8>, all_days: bool, figures: &Figures) -> Result
     ensures err { IfErr result (λ e. e ≡ out_of_memory) }
 {
     for (_, formula) in &LISTED {
-        push_quotient(text, formula.places, &index_of(formula, figures, all_days))?;
+        push_index(text, all_days, figures, formula)?;
     }
     Ok(())
+}
+
+// Appends the fields of an index, whatever its name.
+#[tactic(auto, unfolding(crate::specs::Lines::index_fields))]
+fn push_index(
+    text: &mut Vec<u8>,
+    all_days: bool,
+    figures: &Figures,
+    formula: &Formula,
+) -> Result<(), Stop>
+    requires small { AreAtMost (2 ^ 52) figures.now }
+    requires short { figures.now.length < 2 ^ 25 }
+    requires places { formula.now.places ≤ 5 }
+    ensures ok { (name : List ℕ) → OnOk result (text.new.items ≡ text.old.items
+        ++ index_fields all_days figures.now (name, formula.now)) }
+    ensures err { IfErr result (λ e. e ≡ out_of_memory) }
+{
+    push_quotient(text, formula.places, &index_of(formula, figures, all_days))
 }
 
 // Appends a quotient and its decimals, at most 5; two empty fields if there is none.
