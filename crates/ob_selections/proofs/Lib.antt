@@ -2,6 +2,7 @@ mod Added
 mod Bounds
 mod Growing
 mod Prefixes
+mod Rows
 mod Summed
 mod Tallied
 mod Texts

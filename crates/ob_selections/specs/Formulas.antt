@@ -65,3 +65,7 @@ listed =
     ∷ (codes "cemi_10", per_customer (Interrupted 9))
     ∷ (codes "maifi", per_customer Momentary)
     ∷ []
+
+-- what is past the end of the list
+abbrev pub unlisted : List ℕ × Formula
+unlisted = ([], per_customer Sustained)

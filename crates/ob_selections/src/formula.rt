@@ -1,7 +1,7 @@
 //! Indices as data: each a quotient of measures under a name.
 ghost use Rattle.std.specs.Prelude.{◌≡◌, ◌≤◌, ◌<◌, ◌^◌, ℕ, slice_index, slice_index_or};
 ghost use Rattle.ob_index.specs.Short.{IsShort};
-ghost use Rattle.ob_selections.specs.Formulas.{divided as divided_by, divisor as divisor_of, index_of as index_among, measured as measure_of, value_of as value_by};
+ghost use Rattle.ob_selections.specs.Formulas.{divided as divided_by, listed, unlisted, divisor as divisor_of, index_of as index_among, measured as measure_of, value_of as value_by};
 ghost use Rattle.ob_selections.specs.Sums.{AreAtMost};
 
 use crate::figures::Figures;
@@ -49,122 +49,131 @@ const PER_CUSTOMER: Formula = Formula {
     places: 3,
 };
 
-/// The indices of a selection, each under its name.
-pub const LISTED: [(&'static str, Formula); 16] = [
-    ("saifi", PER_CUSTOMER),
-    (
-        "saidi",
-        Formula {
-            numerator: Measure::SustainedSeconds,
-            scale: 60,
-            ..PER_CUSTOMER
-        },
-    ),
-    (
-        "caidi",
-        Formula {
-            numerator: Measure::SustainedSeconds,
-            of_period: false,
-            denominator: Measure::Sustained,
-            scale: 60,
-            ..PER_CUSTOMER
-        },
-    ),
-    (
-        "caifi",
-        Formula {
-            of_period: false,
-            denominator: Measure::Interrupted(0),
-            ..PER_CUSTOMER
-        },
-    ),
-    (
-        "asai",
-        Formula {
-            numerator: Measure::Served,
-            of_period: false,
-            places: 5,
-            ..PER_CUSTOMER
-        },
-    ),
-    (
-        "cemi_1",
-        Formula {
-            numerator: Measure::Interrupted(0),
-            ..PER_CUSTOMER
-        },
-    ),
-    (
-        "cemi_2",
-        Formula {
-            numerator: Measure::Interrupted(1),
-            ..PER_CUSTOMER
-        },
-    ),
-    (
-        "cemi_3",
-        Formula {
-            numerator: Measure::Interrupted(2),
-            ..PER_CUSTOMER
-        },
-    ),
-    (
-        "cemi_4",
-        Formula {
-            numerator: Measure::Interrupted(3),
-            ..PER_CUSTOMER
-        },
-    ),
-    (
-        "cemi_5",
-        Formula {
-            numerator: Measure::Interrupted(4),
-            ..PER_CUSTOMER
-        },
-    ),
-    (
-        "cemi_6",
-        Formula {
-            numerator: Measure::Interrupted(5),
-            ..PER_CUSTOMER
-        },
-    ),
-    (
-        "cemi_7",
-        Formula {
-            numerator: Measure::Interrupted(6),
-            ..PER_CUSTOMER
-        },
-    ),
-    (
-        "cemi_8",
-        Formula {
-            numerator: Measure::Interrupted(7),
-            ..PER_CUSTOMER
-        },
-    ),
-    (
-        "cemi_9",
-        Formula {
-            numerator: Measure::Interrupted(8),
-            ..PER_CUSTOMER
-        },
-    ),
-    (
-        "cemi_10",
-        Formula {
-            numerator: Measure::Interrupted(9),
-            ..PER_CUSTOMER
-        },
-    ),
-    (
-        "maifi",
-        Formula {
-            numerator: Measure::Momentary,
-            ..PER_CUSTOMER
-        },
-    ),
-];
+/// How many indices are listed.
+pub const LISTED: usize = 16;
+
+/// An index of a selection by its place in the list, under its name.
+pub fn listed_at(place: usize) -> (&'static str, Formula)
+    requires { place < 16 }
+    ensures name { result.0.now ≡ (slice_index_or listed place unlisted).0 }
+    ensures formula { result.1 ≡ (slice_index_or listed place unlisted).1 }
+{
+    match place {
+        0 => ("saifi", PER_CUSTOMER),
+        1 => (
+            "saidi",
+            Formula {
+                numerator: Measure::SustainedSeconds,
+                scale: 60,
+                ..PER_CUSTOMER
+            },
+        ),
+        2 => (
+            "caidi",
+            Formula {
+                numerator: Measure::SustainedSeconds,
+                of_period: false,
+                denominator: Measure::Sustained,
+                scale: 60,
+                ..PER_CUSTOMER
+            },
+        ),
+        3 => (
+            "caifi",
+            Formula {
+                of_period: false,
+                denominator: Measure::Interrupted(0),
+                ..PER_CUSTOMER
+            },
+        ),
+        4 => (
+            "asai",
+            Formula {
+                numerator: Measure::Served,
+                of_period: false,
+                places: 5,
+                ..PER_CUSTOMER
+            },
+        ),
+        5 => (
+            "cemi_1",
+            Formula {
+                numerator: Measure::Interrupted(0),
+                ..PER_CUSTOMER
+            },
+        ),
+        6 => (
+            "cemi_2",
+            Formula {
+                numerator: Measure::Interrupted(1),
+                ..PER_CUSTOMER
+            },
+        ),
+        7 => (
+            "cemi_3",
+            Formula {
+                numerator: Measure::Interrupted(2),
+                ..PER_CUSTOMER
+            },
+        ),
+        8 => (
+            "cemi_4",
+            Formula {
+                numerator: Measure::Interrupted(3),
+                ..PER_CUSTOMER
+            },
+        ),
+        9 => (
+            "cemi_5",
+            Formula {
+                numerator: Measure::Interrupted(4),
+                ..PER_CUSTOMER
+            },
+        ),
+        10 => (
+            "cemi_6",
+            Formula {
+                numerator: Measure::Interrupted(5),
+                ..PER_CUSTOMER
+            },
+        ),
+        11 => (
+            "cemi_7",
+            Formula {
+                numerator: Measure::Interrupted(6),
+                ..PER_CUSTOMER
+            },
+        ),
+        12 => (
+            "cemi_8",
+            Formula {
+                numerator: Measure::Interrupted(7),
+                ..PER_CUSTOMER
+            },
+        ),
+        13 => (
+            "cemi_9",
+            Formula {
+                numerator: Measure::Interrupted(8),
+                ..PER_CUSTOMER
+            },
+        ),
+        14 => (
+            "cemi_10",
+            Formula {
+                numerator: Measure::Interrupted(9),
+                ..PER_CUSTOMER
+            },
+        ),
+        _ => (
+            "maifi",
+            Formula {
+                numerator: Measure::Momentary,
+                ..PER_CUSTOMER
+            },
+        ),
+    }
+}
 
 /// The value of an index. `None` if it divides by 0, or if it asks for all days of the period and
 /// the figures are of some days only.

@@ -11,7 +11,7 @@ ghost use Rattle.ob_selections.specs.Sums.{AreAtMost};
 
 use crate::decimals::{push_decimals, push_number};
 use crate::figures::Figures;
-use crate::formula::{Formula, LISTED, index_of};
+use crate::formula::{Formula, LISTED, index_of, listed_at};
 use itoa::Buffer;
 use ob_base::Stop;
 use ob_index::laws::quotient_law;
@@ -36,8 +36,9 @@ fn push_index_columns(text: &mut Vec<u8>) -> Result<(), Stop>
     ensures ok { OnOk result (text.new.items ≡ text.old.items ++ flat_map index_columns listed) }
     ensures err { IfErr result (λ e. e ≡ out_of_memory) }
 {
-    for (name, formula) in &LISTED {
-        push_columns(text, name, formula)?;
+    for place in 0..LISTED {
+        let (name, formula) = listed_at(place);
+        push_columns(text, name, &formula)?;
     }
     Ok(())
 }
@@ -134,8 +135,9 @@ fn push_indices(text: &mut Vec<u8>, all_days: bool, figures: &Figures) -> Result
         ++ flat_map (index_fields all_days figures.now) listed) }
     ensures err { IfErr result (λ e. e ≡ out_of_memory) }
 {
-    for (_, formula) in &LISTED {
-        push_index(text, all_days, figures, formula)?;
+    for place in 0..LISTED {
+        let (_, formula) = listed_at(place);
+        push_index(text, all_days, figures, &formula)?;
     }
     Ok(())
 }

@@ -4,6 +4,6 @@ use Rattle.ob_selections.specs.Formulas.{listed}
 use Rattle.ob_selections.specs.Lines.{index_columns}
 use Rattle.ob_selections.proofs.line.push_index_columns.Given as goal
 
--- the names of the indices so far
-abbrev pub invariant-loop-name : goal.invariant-loop-name
-invariant-loop-name l = l.text.items ≡ l.fn.text.items ++ flat_map index_columns (take l.name-index listed)
+-- the indices so far
+abbrev pub invariant-loop-place : goal.invariant-loop-place
+invariant-loop-place l = l.text.items ≡ l.fn.text.items ++ flat_map index_columns (take l.place listed)

@@ -4,6 +4,6 @@ use Rattle.ob_selections.specs.Formulas.{listed}
 use Rattle.ob_selections.specs.Lines.{index_fields}
 use Rattle.ob_selections.proofs.line.push_indices.Given as goal
 
--- the fields of the indices so far
-abbrev pub invariant-loop-formula : goal.invariant-loop-formula
-invariant-loop-formula l = l.text.items ≡ l.fn.text.items ++ flat_map (index_fields l.all_days l.figures) (take l.formula-index listed)
+-- the indices so far
+abbrev pub invariant-loop-place : goal.invariant-loop-place
+invariant-loop-place l = l.text.items ≡ l.fn.text.items ++ flat_map (index_fields l.all_days l.figures) (take l.place listed)
