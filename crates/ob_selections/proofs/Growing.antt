@@ -1,6 +1,7 @@
 -- Texts of selections that are found number by number.
-use Rattle.std.proofs.Common.{◌≡◌, ◌∙◌, ap, sym, arith, ℕ, zero, suc, ◌+◌, List, [], ◌∷◌, ◌++◌, Option, Some, None, append_assoc, append-nil}
+use Rattle.std.proofs.Common.{◌≡◌, ◌∙◌, ap, refl, sym, arith, ℕ, zero, suc, ◌+◌, List, [], ◌∷◌, ◌++◌, Option, Some, None, append_assoc, append-nil}
 use Rattle.std.specs.List.{cons_option, filter_map, flat_map, range_with_len}
+use Rattle.std.specs.Option.{option_map_or}
 use Rattle.std.proofs.lemmas.Grind.{flat_map-append}
 use Rattle.std.proofs.lemmas.List.Elements.{filter_map-append}
 
@@ -18,20 +19,16 @@ module _ {X : Type 0} (h : ℕ → Option X) (g : X → List ℕ) (n : ℕ) wher
       let on : n + 1 ≡ suc n = omega arith in
       ap found on ∙ ap (filter_map h) (last 0 n n (omega arith)) ∙ filter_map-append h (range_with_len 0 n) (n ∷ [])
 
-  -- the next number has a selection, whose text is appended
-  pub one_more : (x : X) (text : List ℕ) → h n ≡ Some x → (text ++ flat_map g (found n)) ++ g x ≡ text ++ flat_map g (found (n + 1))
-  one_more x text is =
-      append_assoc text (flat_map g (found n)) (g x)
-      ∙ ap (λ (t : List ℕ). text ++ t)
-      (ap (λ (t : List ℕ). flat_map g (found n) ++ t) (sym (append-nil (g x)))
-      ∙ sym (flat_map-append g (found n) (x ∷ []))
-      ∙ ap (λ (o : Option X). flat_map g (found n ++ cons_option o [])) (sym is)
-      ∙ ap (flat_map g) (sym more))
+  -- the text of a selection, if there is one
+  text_of : (o : Option X) → option_map_or g o [] ≡ flat_map g (cons_option o [])
+  text_of None = refl
+  text_of (Some x) = sym (append-nil (g x))
 
-  -- it has none
-  pub no_more : (text : List ℕ) → h n ≡ None → text ++ flat_map g (found n) ≡ text ++ flat_map g (found (n + 1))
-  no_more text is =
-      ap (λ (t : List ℕ). text ++ t)
-      (ap (flat_map g) (sym (append-nil (found n)))
-      ∙ ap (λ (o : Option X). flat_map g (found n ++ cons_option o [])) (sym is)
+  -- the text of the next number is appended
+  pub one_more : (text : List ℕ) → (text ++ flat_map g (found n)) ++ option_map_or g (h n) [] ≡ text ++ flat_map g (found (n + 1))
+  one_more text =
+      append_assoc text (flat_map g (found n)) (option_map_or g (h n) [])
+      ∙ ap (λ (t : List ℕ). text ++ t)
+      (ap (λ (t : List ℕ). flat_map g (found n) ++ t) (text_of (h n))
+      ∙ sym (flat_map-append g (found n) (cons_option (h n) []))
       ∙ ap (flat_map g) (sym more))

@@ -1,9 +1,9 @@
 //! The indices of a book by feeder, month, cause or section, as CSV.
-ghost use Rattle.std.specs.Prelude.{◌≡◌, ◌++◌, IfErr, IfOk, OnOk};
+ghost use Rattle.std.specs.Prelude.{◌≡◌, ◌++◌, ◌<◌, IfErr, IfOk, OnOk};
 ghost use Rattle.std.specs.List.{flat_map};
 ghost use Rattle.ob_base.specs.Stop.{out_of_memory};
-ghost use Rattle.ob_selections.specs.IndexText.{indices_text_of, key_lines, selection_line, set_word};
-ghost use Rattle.ob_selections.specs.Listed.{selections_by};
+ghost use Rattle.ob_selections.specs.IndexText.{indices_text_of, key_lines, place_lines, selection_line, set_word};
+ghost use Rattle.ob_selections.specs.Listed.{places_of as count_of_places, selections_by};
 ghost use Rattle.ob_selections.specs.Selections.{IsSelection, is_whole_period as is_whole};
 
 use crate::counting::figures_of;
@@ -48,11 +48,29 @@ fn push_all<T: Timeline>(
     ensures err { IfErr result (λ e. e ≡ out_of_memory) }
 {
     for place in 0..places_of(book, by) {
-        if let Some(keyed) = selection_at(alloc, book, by, longest, place)? {
-            push_both(text, book, &keyed)?;
-        }
+        push_place(alloc, text, book, by, longest, place)?;
     }
     Ok(())
+}
+
+// Appends the lines of the selection of a number, if there is one.
+fn push_place<T: Timeline>(
+    alloc: Global,
+    text: &mut Vec<u8>,
+    book: &Book<T>,
+    by: By,
+    longest: Second,
+    place: u16,
+) -> Result<(), Stop>
+    requires { place < count_of_places book.now.state by }
+    ensures ok { OnOk result (text.new.items ≡ text.old.items
+        ++ place_lines book.now.state by longest place) }
+    ensures err { IfErr result (λ e. e ≡ out_of_memory) }
+{
+    match selection_at(alloc, book, by, longest, place)? {
+        Some(keyed) => push_both(text, book, &keyed),
+        None => Ok(()),
+    }
 }
 
 // Appends the lines of a key.
