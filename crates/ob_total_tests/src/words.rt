@@ -1,5 +1,5 @@
 //! Tests of the arguments of the command line.
-use ob_cli::{Job, WrongWords, read_words};
+use ob_cli::{By, Job, WrongWords, read_words};
 use std::alloc::{AllocError, Global};
 use std::process::Abort;
 
@@ -32,6 +32,10 @@ fn told(alloc: Global, job: &Job) -> Result<String, AllocError> {
             two_words(alloc, "interruptions", book.as_str(), output.as_str())
         }
         Job::Table { book } => two_words(alloc, "table", book.as_str(), "-"),
+        Job::Indices { book, by, over } => {
+            let (book, by) = (book.as_str(), by_word(*by));
+            format!(in alloc; "indices {book} {by} {over}")
+        }
         Job::Audit { book } => two_words(alloc, "audit", book.as_str(), "-"),
         Job::Migrate { book } => two_words(alloc, "migrate", book.as_str(), "-"),
         Job::Serve {
@@ -42,6 +46,16 @@ fn told(alloc: Global, job: &Job) -> Result<String, AllocError> {
             let book = book.as_str();
             format!(in alloc; "serve {book} {port} {streams}")
         }
+    }
+}
+
+fn by_word(by: By) -> &'static str {
+    match by {
+        By::Whole => "whole",
+        By::Feeder => "feeder",
+        By::Month => "month",
+        By::Cause => "cause",
+        By::Section => "section",
     }
 }
 
@@ -59,6 +73,11 @@ outagebook export --book a.db moves.csv => export a.db moves.csv
 outagebook interruptions rows.csv => interruptions book.db rows.csv
 outagebook interruptions --book a.db rows.csv => interruptions a.db rows.csv
 outagebook table => table book.db -
+outagebook indices => indices book.db whole 300
+outagebook indices --by=feeder --over 1 => indices book.db feeder 1
+outagebook indices --by month --over=99999 --book a.db => indices a.db month 99999
+outagebook indices --by cause => indices book.db cause 300
+outagebook indices --by section => indices book.db section 300
 outagebook audit => audit book.db -
 outagebook audit --book=büch.db => audit büch.db -
 outagebook migrate => migrate book.db -
@@ -90,6 +109,10 @@ outagebook --book=a.db table => Usage: outagebook
 outagebook table a.db => Usage: outagebook
 outagebook interruptions => <OUTPUT>
 outagebook interruptions a.csv b.csv => Usage: outagebook
+outagebook indices --by=day => --by has to be one of: whole, feeder, month, cause, section
+outagebook indices --over=0 => 0 is not in 1..=99999
+outagebook indices --over=100000 => 100000 is not in 1..=99999
+outagebook indices feeder => Usage: outagebook
 outagebook audit --days=1 => Usage: outagebook
 outagebook migrate a.db => Usage: outagebook
 outagebook table --book=a --book=b => --book <FILE>
