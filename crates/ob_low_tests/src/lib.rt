@@ -26,4 +26,6 @@ mod stops;
 #[cfg(test)]
 mod streams;
 #[cfg(test)]
+mod switchings;
+#[cfg(test)]
 mod watched;
