@@ -1,5 +1,5 @@
 -- The devices at each node: from the last one to the one before it, and so on.
-use Rattle.std.proofs.Common.{◌≡◌, ◌≢◌, ℕ, ◌+◌, ◌-◌, ◌<◌, ◌≤◌, ◌||◌, ◌∷◌, ◌++◌, [], Bool, true, false, cond, List, refl, sym, ap, subst, ◌∙◌, inl, inr, length, get_or, set, take, map, arith, length-set, get_or-set_other, zero, suc}
+use Rattle.std.proofs.Common.{◌≡◌, ℕ, ◌+◌, ◌-◌, ◌<◌, ◌≤◌, ◌||◌, ◌∷◌, ◌++◌, [], Bool, true, false, cond, List, refl, sym, ap, subst, ◌∙◌, inl, inr, length, get_or, set, take, arith, length-set, get_or-set_other, zero, suc}
 use Rattle.std.proofs.lemmas.Bool.{cases_Bool, cases_eq, cond-true, cond-false, eq-eqb, eqb-true}
 use Rattle.std.proofs.lemmas.Bool.Decides.{eqb_tells}
 use Rattle.std.proofs.lemmas.Grind.{get_or-set_at}
@@ -108,10 +108,10 @@ last_at_no ends v k f =
     let e : k + 1 ≡ suc k = omega arith in
     ap (last_at ends v) e ∙ cond-false (is_end v (ends_at ends k)) (suc k) (last_at ends v k) f
 
-abbrev device_pair : Device → ℕ × ℕ
+abbrev pub device_pair : Device → ℕ × ℕ
 device_pair d = (d.a, d.b)
 
-ends_there : (devices : List Device) (k : ℕ) (d : Device) → k < length devices → d ≡ get_or devices k d → ends_at (ends_of devices) k ≡ (d.a, d.b)
+pub ends_there : (devices : List Device) (k : ℕ) (d : Device) → k < length devices → d ≡ get_or devices k d → ends_at (ends_of devices) k ≡ (d.a, d.b)
 ends_there devices k d l is =
     get_or-map device_pair devices k d (0, 0) l ∙ ap device_pair (sym is)
 

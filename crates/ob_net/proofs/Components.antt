@@ -1,18 +1,14 @@
 -- What following closed devices from a node finds.
-use Rattle.std.proofs.Common.{◌≡◌, ◌≢◌, ℕ, ◌+◌, ◌-◌, ◌<◌, ◌≤◌, ◌||◌, ◌&&◌, ◌∷◌, ◌++◌, [], Bool, true, false, not, cond, List, refl, sym, ap, subst, ◌∙◌, inl, inr, length, get_or, set, take, map, arith, length-set, get_or-set_other, zero, suc, true≢false, append_assoc, append-nil, length-append}
+use Rattle.std.proofs.Common.{◌≡◌, ℕ, ◌+◌, ◌-◌, ◌<◌, ◌≤◌, ◌||◌, ◌∷◌, ◌++◌, [], Bool, true, List, refl, sym, ap, subst, ◌∙◌, inl, inr, length, get_or, arith, suc, true≢false, append_assoc, append-nil, length-append}
 use Rattle.std.proofs.lemmas.Bool.{cases_Bool, cases_eq, cases_lt, cond-true, cond-false, eq-eqb, eqb-true}
 use Rattle.std.proofs.lemmas.Bool.Decides.{eqb_tells}
-use Rattle.std.proofs.lemmas.Grind.{get_or-set_at}
 use Rattle.std.proofs.lemmas.List.{get_or_append_left}
 use Rattle.std.proofs.lemmas.List.Elements.{All-push}
-use Rattle.std.proofs.lemmas.List.Folds.{list_any-append, list_any_at, Any-from_list_any}
+use Rattle.std.proofs.lemmas.List.Folds.{list_any-append}
 use Rattle.std.proofs.Math.Dec.{eqb}
-use Rattle.std.specs.List.{All, list_any}
 use Rattle.ob_base.specs.declared.Pos.{Pos}
-use Rattle.ob_base.specs.declared.Pos.TheVariants.{Opened, Closed}
 use Rattle.ob_net.specs.Joints.{AreFollowed, AreSame, IsAlikeOver, IsClosedAt, IsComponent, IsExplored, ends_at, is_end, last_at, other_end}
 use Rattle.ob_net.specs.Nodes.{IsLonger, is_among, with_one}
-use Rattle.ob_net.specs.Reach.{is_reached}
 use Rattle.ob_net.proofs.Chains.{end_a, end_b, last_at_end, last_at_most, none_after_last}
 use Rattle.ob_net.proofs.Nodes.{among_last, with_new, with_old}
 

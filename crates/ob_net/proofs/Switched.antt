@@ -6,10 +6,10 @@ use Rattle.ob_base.specs.declared.Pos.{Pos}
 use Rattle.ob_base.specs.declared.Pos.TheVariants.{Opened, Closed}
 use Rattle.std.specs.List.{All, AllPairs}
 use Rattle.ob_net.specs.Joints.{AreSame, IsAlikeOver, IsClosedAt, IsComponent, IsExplored, ends_at}
-use Rattle.ob_net.specs.Nodes.{is_among}
+use Rattle.ob_net.specs.Nodes.{is_among, with_one}
 use Rattle.ob_net.specs.Reach.{is_reached}
 use Rattle.ob_net.specs.Supplies.{AreChanged}
-use Rattle.ob_net.proofs.Components.{same_among}
+use Rattle.ob_net.proofs.Components.{explored_first, same_among}
 
 -- the device k is closed: it, and the others as before
 closed_here : (ps : List Pos) (k : ℕ) → k < length ps → IsClosedAt (set ps k Closed) k
@@ -110,7 +110,7 @@ opening_dead ends ps k start has l m dead h = record {
       let only : ℕ → Bool = λ u. cond (has u) (test u) false in
       let also : has b ≡ false = sym (alike_here has ends ps k l m h.alike) ∙ dead in
       let all = alike_more only ends ps k (cond-false (has a) (test a) false dead ∙ sym (cond-false (has b) (test b) false also))
-          (alike_cond has test (λ u. false) ends ps (alike_less has ends ps k l h.alike) alike (alike_const false ends ps)) in
+      (alike_cond has test (λ u. false) ends ps (alike_less has ends ps k l h.alike) alike (alike_const false ends ps)) in
       sym (cond-true (has v) (test v) false is) ∙ h.least v is only all ∙ cond-true (has start) (test start) false h.at;
 }
 
@@ -132,13 +132,14 @@ opening_cuts ends ps k start x y has part new l xy apart each h p = record {
       let far : part v ≡ false = apart_from (part v) (has v) (sym (each v) ∙ is) in
       let live : has v ≡ true = sym (cond-false (part v) false (has v) far) ∙ sym (each v) ∙ is in
       let all = alike_more moved ends ps k (xy moved (cond-true (part x) (test y) (test x) p.at ∙ sym (both (part y) (test y))))
-          (alike_cond part (λ u. test y) test ends ps p.alike (alike_const (test y) ends ps) alike) in
+      (alike_cond part (λ u. test y) test ends ps p.alike (alike_const (test y) ends ps) alike) in
       sym (cond-false (part v) (test y) (test v) far) ∙ h.least v live moved all ∙ cond-false (part start) (test y) (test start) apart;
 }
   where
     apart_from : (b c : Bool) → cond b false c ≡ true → b ≡ false
     apart_from true c t = sym t
     apart_from false c t = refl
+
     both : (b c : Bool) → cond b c c ≡ c
     both true c = refl
     both false c = refl
@@ -197,3 +198,13 @@ pub closed_again : (ps : List Pos) (k : ℕ) → k < length ps → get_or ps k O
 closed_again [] k l e = absurd (omega (arith, l))
 closed_again (p ∷ ps) zero l e = ap (λ q. q ∷ ps) (sym e)
 closed_again (p ∷ ps) (suc k) l e = ap (λ (q : List Pos). p ∷ q) (closed_again ps k (omega (arith, l)) e)
+
+-- what was found from one node alone
+pub alone_explored : (ends : List (ℕ × ℕ)) (ps : List Pos) (x : ℕ) (old nodes : List ℕ) → nodes ≡ with_one old x → old ≡ [] → IsExplored ends ps x nodes 0
+alone_explored ends ps x old nodes put none =
+    subst (λ (q : List ℕ). IsExplored ends ps x q 0) (sym (put ∙ ap (λ (q : List ℕ). with_one q x) none)) (explored_first ends ps x)
+
+-- following closed devices from a node that isn't supplied finds all that is connected to it
+pub dead_part : (ends : List (ℕ × ℕ)) (ps : List Pos) (x : ℕ) (has : ℕ → Bool) (nodes found : List ℕ) → IsExplored ends ps x nodes 0 → IsComponent ends ps 0 has → has x ≡ false → ((start : ℕ) → IsExplored ends ps start nodes 0 → (test : ℕ → Bool) → IsAlikeOver test ends ps → AreSame test start found) → ((start : ℕ) → IsExplored ends ps start nodes 0 → is_among found 0 ≡ false → IsComponent ends ps start (is_among found)) → IsComponent ends ps x (is_among found)
+dead_part ends ps x has nodes found h live dead same whole =
+    whole x h (part_without ends ps 0 x has found live dead (same x h))

@@ -55,11 +55,11 @@ impl Supply {
         requires count { length live.items ≡ joints.nodes }
         requires live { IsComponent joints.ends positions.items 0 (is_reached live.items) }
         ensures { IfOk result (λ supply. supply ≡ record {
-            nodes = joints.nodes;
-            ends = joints.ends;
-            positions = positions.items;
-            live = live.items;
-            changed = [];
+          nodes = joints.nodes;
+          ends = joints.ends;
+          positions = positions.items;
+          live = live.items;
+          changed = [];
         }) }
     {
         let nodes = live.len();

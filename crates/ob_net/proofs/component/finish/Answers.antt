@@ -1,4 +1,4 @@
-use Rattle.std.proofs.Common.{◌≡◌, ℕ, ◌<◌, ◌≤◌, List, ap, length, arith, get_or, ◌∙◌, sym}
+use Rattle.std.proofs.Common.{ℕ, ◌<◌, List, ap, length, arith, ◌∙◌}
 use Rattle.ob_net.proofs.Components.{component_of, explored_more}
 use Rattle.ob_net.proofs.component.finish.Goals as goal
 

@@ -1,6 +1,6 @@
-use Rattle.std.proofs.Common.{◌≡◌, ℕ, ◌+◌, ◌-◌, ◌<◌, ◌≤◌, List, ap, subst, sym, ◌∙◌, arith}
+use Rattle.std.proofs.Common.{◌≡◌, ℕ, ◌+◌, ◌-◌, List, ap, subst, sym, ◌∙◌, arith}
 use Rattle.ob_base.specs.declared.Pos.{Pos}
-use Rattle.ob_net.specs.Joints.{ends_at, last_at, other_end}
+use Rattle.ob_net.specs.Joints.{ends_at, other_end}
 use Rattle.ob_net.specs.Nodes.{with_one}
 use Rattle.ob_net.proofs.Chains.{last_at_most}
 use Rattle.ob_net.proofs.Components.{AreFound, found_closed, found_first, found_open}

@@ -1,4 +1,4 @@
-use Rattle.std.proofs.Common.{◌≡◌, ℕ, ◌<◌, ◌≤◌, List, length, arith, ◌∙◌}
+use Rattle.std.proofs.Common.{ℕ, ◌<◌, List, length, arith, ◌∙◌}
 use Rattle.ob_net.proofs.Components.{explored_more}
 use Rattle.ob_net.proofs.component.race.Goals as goal
 

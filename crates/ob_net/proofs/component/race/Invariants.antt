@@ -1,4 +1,4 @@
-use Rattle.std.proofs.Common.{◌≡◌, ℕ, ◌-◌, ◌≤◌, length}
+use Rattle.std.proofs.Common.{◌≡◌, ℕ, ◌-◌}
 use Rattle.ob_net.specs.Joints.{IsExplored}
 use Rattle.ob_net.proofs.component.race.Given as goal
 

@@ -1,4 +1,4 @@
-use Rattle.std.proofs.Common.{◌≡◌, ◌<◌, ◌++◌, ◌∷◌, [], List, length, arith, get_or}
+use Rattle.std.proofs.Common.{arith}
 use Rattle.ob_net.specs.declared.net.Device.{Device}
 use Rattle.ob_net.proofs.Chains.{chained_all, linked_more}
 use Rattle.ob_net.proofs.joints.Joints.new.Goals as goal

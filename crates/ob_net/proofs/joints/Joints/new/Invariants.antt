@@ -1,4 +1,3 @@
-use Rattle.std.proofs.Common.{length}
 use Rattle.ob_net.proofs.Chains.{AreLinked}
 use Rattle.ob_net.proofs.joints.Joints.new.Given as goal
 

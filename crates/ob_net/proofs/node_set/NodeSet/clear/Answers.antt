@@ -1,6 +1,5 @@
-use Rattle.std.proofs.Common.{◌≡◌, ◌≤◌, List, Bool, length, ap, subst, sym, ◌∙◌, arith}
+use Rattle.std.proofs.Common.{◌≡◌, ◌≤◌, List, Bool, length, ap, ◌∙◌, arith}
 use Rattle.std.specs.Vec.{vec_capacity}
-use Rattle.ob_net.specs.Nodes.{AreMarked}
 use Rattle.ob_net.proofs.Nodes.{none_marked, unmarked, written_back}
 use Rattle.ob_net.proofs.node_set.NodeSet.clear.Goals as goal
 
