@@ -115,16 +115,16 @@ pub recorded_all : (old new : List (List Run)) (live before : List Bool) (change
     → AreRecorded old new live changed second hi number i → new ≡ push_all 0 before live second hi number old
 recorded_all old new live before changed second hi number i count long lb all h done =
     let bs : length before ≡ length old = lb ∙ sym count in
-    let as : length live ≡ length old = sym count in
+    let ls : length live ≡ length old = sym count in
     let none : take i changed ≡ changed = take_all i changed all in
-    same_lists new (push_all 0 before live second hi number old) (long ∙ sym (length-push_all second hi number 0 before live old bs as))
+    same_lists new (push_all 0 before live second hi number old) (long ∙ sym (length-push_all second hi number 0 before live old bs ls))
     (λ v d l.
         let m : v < length old = omega (arith, l, long) in
-        let n : v < length (push_all 0 before live second hi number old) = let e = length-push_all second hi number 0 before live old bs as in omega (arith, e, m) in
+        let n : v < length (push_all 0 before live second hi number old) = let e = length-push_all second hi number 0 before live old bs ls in omega (arith, e, m) in
         let place : 0 + v ≡ v = omega arith in
         get_or_default new v d [] l ∙ done v m
         ∙ ap (λ (q : List ℕ). cond (is_among q v) (turned live second hi number v (get_or old v [])) (get_or old v [])) none
         ∙ one_node live before changed second hi number v (get_or old v []) h
         ∙ ap (λ k. push k (is_reached before v) (is_reached live v) second hi number (get_or old v [])) (sym place)
-        ∙ sym (push_all_at second hi number 0 v before live old m bs as)
+        ∙ sym (push_all_at second hi number 0 v before live old m bs ls)
         ∙ get_or_default (push_all 0 before live second hi number old) v [] d n)
