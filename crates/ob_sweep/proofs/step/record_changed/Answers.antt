@@ -12,7 +12,7 @@ loop-node-preserved c =
     let vs = c.loop-node.lists in
     let i = c.loop-node.node-index in
     let x = c.from-place.result in
-    let was = c.index-lists-place.result in
+    let was = get_or vs x c.index-lists-place.result in
     let changed : List ℕ = c.args.changed.now in
     let l : i < length changed = c.loop-node-test.true in
     let is : x ≡ get_or changed i x = c.from-place.ensures ∙ get_or_default changed i 0 x l in
@@ -22,7 +22,7 @@ loop-node-preserved c =
     rw (map-set_at vs (λ r. r.items) x c.record_step.new.runs)
     (recorded_more (map (λ r. r.items) c.args.lists.now) (map (λ r. r.items) vs) c.args.live.now changed c.args.second c.args.end c.args.number i x c.record_step.new.runs.items was.items l is c.requires.distinct
     (omega (arith, within, many)) (many ∙ c.loop-node.auto.lists ∙ sym (length-map c.args.lists.now (λ r. r.items)))
-    (ap (λ r. r.items) c.index-lists-place.is ∙ sym (get_or-map (λ r. r.items) vs x was [] within))
+    (sym (get_or-map (λ r. r.items) vs x c.index-lists-place.result [] within))
     (c.in_ok-record_step.ensures ∙ ap (λ k. push k (not (is_reached c.args.live.now x)) (is_reached c.args.live.now x) c.args.second c.args.end c.args.number was.items) (sym c.from-place.ensures)) c.loop-node.invariant)
 
 pub returns : goal.returns
