@@ -1,29 +1,23 @@
 -- What a transaction over the tables of a book leaves of the store, committed or not.
-use Rattle.std.proofs.Common.{◌≡◌, ◌⊎◌, ◌+◌, ℕ, List, length, Option, Some, Result, Ok, Err, IsTrue, inl, inr, refl, sym, subst, arith}
-use Rattle.std.specs.Prelude.{IfErr}
-use Rattle.std.proofs.lemmas.Bool.{cases_Bool}
+use Rattle.std.proofs.Common.{◌≡◌, ◌⊎◌, ◌+◌, ℕ, List, [], length, Ok, Err, IsTrue, false, inl, inr, refl, ap, arith}
 use Rattle.sqlite_trees.specs.declared.store.Store.{Ghosts}
 use Rattle.sqlite.specs.Held.{Held, state}
 use Rattle.sqlite.specs.State.{State, HasCleanDisk, IsLive, IsRolledBack, Shows, Survives}
 use Rattle.sqlite.specs.Steps.{FailsToCommit}
 use Rattle.sqlite.specs.Tree.{Trees}
 use Rattle.sqlite.specs.declared.error.Error.{Error}
-use Rattle.sqlite.proofs.StateLemmas.{survives_then}
 use Rattle.ob_base.specs.declared.stop.Stop.{Stop}
 use Rattle.ob_base.specs.declared.stop.Stop.TheVariants.{Refused, Fault}
-use Rattle.ob_base.specs.declared.stop.Fault.TheVariants.{OutOfMemory, Store}
+use Rattle.ob_base.specs.declared.stop.Fault.TheVariants.{OutOfMemory, Store, Reopen, Input, Output}
 use Rattle.ob_state.specs.State.{BookState}
 use Rattle.ob_book.specs.Acts.{ActState}
-use Rattle.ob_tables.specs.Rows.{Tables}
 use Rattle.ob_tables.specs.Steps.{HasFailed, Makes, Silent}
-use Rattle.ob_tables.proofs.Failing.{failed_before}
-use Rattle.ob_commit.specs.Keeps.{HasCommitCause, Keeps, KeepsNumbers, Leaves, WasUndone}
+use Rattle.ob_commit.specs.Keeps.{KeepsNumbers, Leaves, WasUndone}
 use Rattle.ob_commit.proofs.Commits.{committed, failed, failed_cause, leaves, numbered_commit, numbers_shown, of_two, undone}
 use Rattle.ob_record.specs.Tables.{tables_of}
 use Rattle.ob_store.specs.Acting.{IsActStop}
-use Rattle.ob_store.specs.Keeping.{KeepsBook, KeepsEitherBook}
-use Rattle.ob_store.specs.Whole.{EndsAt, Halts, HasLineCause, IsWhole, LeadTo, LeadsTables, LeavesLast, LedBy, Line, ShowsBook, TriesAll}
-use Rattle.ob_store.specs.declared.whole.Halted.{Halted}
+use Rattle.ob_store.specs.Keeping.{KeepsBook}
+use Rattle.ob_store.specs.Whole.{ActsAll, EndsAt, Halts, IsWhole, KeepsFirstOrLast, LeadTo, LedBy, Line, ShowsBook, after_lines}
 
 -- the transaction that has begun
 abbrev pub begun : State → State
@@ -45,9 +39,66 @@ whole_begun old b clean whole stays keeps numbers = record {
   numbered = λ live. numbers_shown old (tables_of b) keeps.kept numbers stays clean live;
 }
 
--- the book that a list leads to is in the tables that the transaction shows
-module _ (old last end : State) (b : ActState) (live : IsLive old) (keeps : KeepsBook old b) (quiet : Silent old last) (ends : Survives last end (λ db. db ≡ last.now.trees)) where
-  -- the tables of the one book are made those of the other
-  module _ (c : ActState) (makes : Makes (begun old) last (λ t. t ≡ tables_of b) (λ t. tables_of c)) where
-    pub left_as : HasCleanDisk end → (trees : Trees) → trees ≡ last.now.trees → Leaves (tables_of c) trees
-    left_as clean trees is = leaves old last end (tables_of b) (λ t. t ≡ tables_of b) (λ t. tables_of c) live keeps.kept refl quiet (λ late. of_two makes) ends clean trees is
+-- nothing was done
+pub survives_same : (s : State) (P : Trees → Type 0) → Survives s s P
+survives_same s P = record { clean = omega arith; shield = λ x. x; counts = omega arith; limit = refl; closes = λ clean live. inl live; crash = λ clean db may. inl may }
+
+pub acts_none : {S : Type 0} (g : Ghosts S) (conn : Held S) (is : BookState) (b : ActState) (list : List Line) → list ≡ [] → KeepsBook (state g conn) b → is ≡ b.book → ActsAll g conn is b list (Ok 0)
+acts_none g conn is b list none keeps same = (b, ap (after_lines b 0) none, (let e : length b.accepted + 0 ≡ length b.accepted = omega arith in e), keeps, same)
+
+-- ---- the transaction was dropped
+-- the store keeps what it kept
+pub kept_dropped : (old last end : State) (b : ActState) → Silent old last → (HasCleanDisk end → IsRolledBack last end) → Survives last end (λ _. ⊥) → KeepsBook old b → KeepsBook end b
+kept_dropped old last end b quiet back drops keeps =
+    record { kept = undone old last end (tables_of b) quiet back drops keeps.kept; reached = keeps.reached; valid = keeps.valid }
+
+pub ends_at : (s : State) (b : ActState) (list : List Line) (place : ℕ) (stop : Stop) → KeepsBook s b → IsActStop stop → Halts b list place stop → EndsAt s b list place stop
+ends_at s b list place (Refused refused) keeps act halts = (halts, keeps)
+ends_at s b list place (Fault OutOfMemory) keeps act halts = keeps
+ends_at s b list place (Fault Store) keeps act halts = inl keeps
+ends_at s b list place (Fault Reopen) keeps act halts = absurd act
+ends_at s b list place (Fault Input) keeps act halts = absurd act
+ends_at s b list place (Fault Output) keeps act halts = absurd act
+
+-- ---- the list was written whole, and the transaction was to be committed
+-- the tables of the one book were made those of the other
+pub made : (old last : State) (is : BookState) (b : ActState) (list : List Line) (added : ℕ) (it : LedBy (begun old) last is b list added) → IsTrue old.is_open
+    → Makes (begun old) last (λ t. t ≡ tables_of b) (λ t. tables_of it.book)
+made old last is b list added it live = it.leads live
+
+module _ (old last end : State) (is : BookState) (b : ActState) (list : List Line) (added : ℕ) (it : LedBy (begun old) last is b list added) (live : IsTrue old.is_open) (whole : IsLive old) (keeps : KeepsBook old b)
+    (quiet : Silent old last) (ends : Survives last end (λ db. db ≡ last.now.trees)) where
+  -- what a crash then leaves is the first book or the last
+  pub left_last : HasCleanDisk end → (trees : Trees) → trees ≡ last.now.trees → Leaves (tables_of it.book) trees
+  left_last clean trees is =
+      leaves old last end (tables_of b) (λ t. t ≡ tables_of b) (λ t. tables_of it.book) whole keeps.kept refl quiet (λ late. of_two (made old last _ b list added it live)) ends clean trees is
+
+  pub kept_last : (HasCleanDisk end → Shows last end last.now last.now false) → (IsTrue end.is_open → (trees : Trees) → end.may_leave trees → trees ≡ end.committed.trees) → KeepsBook end it.book
+  kept_last shows law = record {
+    kept = committed old last end (tables_of b) (λ t. t ≡ tables_of b) (λ t. tables_of it.book) whole keeps.kept refl quiet (λ late. of_two (made old last _ b list added it live)) ends shows law;
+    reached = it.reached;
+    valid = it.valid;
+  }
+
+  pub kept_either : (e : Error) → (HasCleanDisk end → FailsToCommit last end e) → KeepsFirstOrLast end b list
+  kept_either e fails = inr (it.book, it.lead, record {
+    kept = failed old last end (tables_of b) (λ t. t ≡ tables_of b) (λ t. tables_of it.book) whole keeps.kept refl quiet (λ late. of_two (made old last _ b list added it live)) ends e fails;
+    reached = keeps.reached;
+    other_reached = it.reached;
+    valid = keeps.valid;
+    other_valid = it.valid;
+  })
+
+  pub numbers_last : KeepsNumbers old → (IsTrue old.is_open → old.may_leave old.committed.trees) → KeepsNumbers end
+  numbers_last numbers stays =
+      numbered_commit old last end (tables_of b) keeps.kept numbers stays quiet (λ t. t ≡ tables_of b) (λ t. tables_of it.book) refl (λ late. of_two (made old last _ b list added it live)) ends
+
+-- why the commit fails
+pub commit_cause : {S : Type 0} (g : Ghosts S) (old : State) (last : Held S) (end : State) (is : BookState) (b : ActState) (list : List Line) (added : ℕ) (it : LedBy (begun old) (state g last) is b list added) → IsTrue old.is_open
+    → KeepsBook old b → Silent old (state g last) → Survives (state g last) end (λ db. db ≡ (state g last).now.trees) → (e : Error) → HasCleanDisk end → FailsToCommit (state g last) end e
+    → HasFailed old end ⊎ ((c : ActState) × LeadTo list b c × WasUndone g end (tables_of c))
+commit_cause g old last end is b list added it live keeps quiet ends e clean fails =
+    elim (failed_cause g old last end (tables_of b) (λ t. t ≡ tables_of b) (λ t. tables_of it.book) keeps.kept refl quiet (λ late. of_two (made old (state g last) is b list added it live)) ends e clean fails) [
+      | inl failed ↦ inl failed
+      | inr undone ↦ inr (it.book, it.lead, undone)
+    ]

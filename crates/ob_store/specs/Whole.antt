@@ -6,7 +6,7 @@ use Rattle.sqlite_trees.specs.declared.store.Store.{Ghosts}
 use Rattle.sqlite.specs.Tree.{Trees}
 use Rattle.sqlite.specs.Effect.{IsDatabase}
 use Rattle.sqlite.specs.Held.{Held, state}
-use Rattle.sqlite.specs.State.{State}
+use Rattle.sqlite.specs.State.{State, Survives}
 use Rattle.ob_base.specs.declared.stop.Refusal.{Refusal}
 use Rattle.ob_base.specs.declared.stop.Stop.{Stop}
 use Rattle.ob_base.specs.declared.stop.Stop.TheVariants.{Refused, Fault}
@@ -51,9 +51,9 @@ abbrev pub after_lines : ActState → ℕ → List Line → Result ActState (ℕ
 after_lines b place [] = Ok b
 after_lines b place (line ∷ list) = goes_on (answer_to b line) place (after_lines (after_line b line) (place + 1) list)
 
--- the lines are all answered, and leave this book
-abbrev pub LeadTo : ActState → List Line → ActState → Type 0
-LeadTo b list c = after_lines b 0 list ≡ Ok c
+-- the lines are all answered, and lead the one book to the other
+abbrev pub LeadTo : List Line → ActState → ActState → Type 0
+LeadTo list b c = after_lines b 0 list ≡ Ok c
 
 -- the line of this place is the first that is refused, and this is the refusal
 abbrev pub StopAt : ActState → List Line → ℕ → Refusal → Type 0
@@ -104,7 +104,7 @@ pub record InTurn (old new : State) (is : BookState) (b : ActState) (list : List
 -- all lines of a list were answered, so many of them were new, and the book after them is in the tables and in memory
 pub record LedBy (old new : State) (is : BookState) (b : ActState) (list : List Line) (added : ℕ) : Type 0 where
   pub book : ActState
-  pub lead : LeadTo b list book
+  pub lead : LeadTo list b book
   pub count : length b.accepted + added ≡ length book.accepted
   pub leads : LeadsTables old new b book
   pub reached : IsReached book
@@ -128,11 +128,11 @@ HasLineCause old new result = IfErr result (λ e. e.stop ≡ Fault Store → Has
 -- a crash leaves the tables of the book after the lines, of the book that the store kept
 abbrev pub LeavesLast : State → BookState → List Line → Trees → Type 0
 LeavesLast s was list trees =
-    (b : ActState) → KeepsBook s b → was ≡ b.book → (c : ActState) × LeadTo b list c × Leaves (tables_of c) trees
+    (b : ActState) → KeepsBook s b → was ≡ b.book → (c : ActState) × LeadTo list b c × Leaves (tables_of c) trees
 
 -- while it is open the store keeps the book from before the list; a crash leaves that, or the book after all lines
 abbrev pub KeepsFirstOrLast : State → ActState → List Line → Type 0
-KeepsFirstOrLast s b list = KeepsBook s b ⊎ ((c : ActState) × LeadTo b list c × KeepsEitherBook s b c)
+KeepsFirstOrLast s b list = KeepsBook s b ⊎ ((c : ActState) × LeadTo list b c × KeepsEitherBook s b c)
 
 -- why a list ended, and that the store then keeps what it kept; after a fault of the store that, or the book after all lines
 abbrev pub EndsAt : State → ActState → List Line → ℕ → Stop → Type 0
@@ -145,13 +145,13 @@ module _ {S : Type 0} (g : Ghosts S) where
   -- what a list made of the store and of the state in memory, over a book
   abbrev pub ActsAll : Held S → BookState → ActState → List Line → Result ℕ Halted → Type 0
   ActsAll new is b list (Ok added) =
-      (c : ActState) × LeadTo b list c × (length b.accepted + added ≡ length c.accepted) × KeepsBook (state g new) c × (is ≡ c.book)
+      (c : ActState) × LeadTo list b c × (length b.accepted + added ≡ length c.accepted) × KeepsBook (state g new) c × (is ≡ c.book)
   ActsAll new is b list (Err e) = EndsAt (state g new) b list e.place e.stop
 
   -- the same of a keeper: it has the book after all lines, or none
   abbrev pub ActedAll : KeeperValue S → ActState → List Line → Result ℕ Halted → Type 0
   ActedAll new b list (Ok added) =
-      (c : ActState) × LeadTo b list c × (length b.accepted + added ≡ length c.accepted) × Ties g new c × IsSome new.book
+      (c : ActState) × LeadTo list b c × (length b.accepted + added ≡ length c.accepted) × Ties g new c × IsSome new.book
   ActedAll new b list (Err e) = EndsAt (state g new.conn) b list e.place e.stop × (new.book ≡ None)
 
   -- where the store is told to have failed, it has; or all lines were answered, and the transaction that showed the tables of the
@@ -159,12 +159,13 @@ module _ {S : Type 0} (g : Ghosts S) where
   abbrev pub HasListCause : {X : Type 0} → Held S → Held S → ActState → List Line → Result X Halted → Type 0
   HasListCause old new b list result =
       IfErr result (λ e. e.stop ≡ Fault Store → HasFailed (state g old) (state g new)
-      ⊎ ((c : ActState) × LeadTo b list c × WasUndone g (state g new) (tables_of c)))
+      ⊎ ((c : ActState) × LeadTo list b c × WasUndone g (state g new) (tables_of c)))
 
-  -- a crash leaves the book after all lines, of the book that the keeper had
-  abbrev pub LeavesAllActed : KeeperValue S → List Line → Trees → Type 0
-  LeavesAllActed old list trees =
-      (b : ActState) → Ties g old b → IsSome old.book → (c : ActState) × LeadTo b list c × Leaves (tables_of c) trees
+  -- a crash leaves what it could leave before; or, of a book that the keeper had, one that it leads to so
+  abbrev pub CommitsOf : (ActState → ActState → Type 0) → KeeperValue S → KeeperValue S → Type 0
+  CommitsOf Leads old new =
+      Survives (state g old.conn) (state g new.conn)
+      (λ trees. (b : ActState) → Ties g old b → IsSome old.book → (c : ActState) × Leads b c × Leaves (tables_of c) trees)
 
 -- a list that found no book
 abbrev pub no_book : Result ℕ Halted

@@ -71,7 +71,7 @@ impl<S: Alter, T: Timeline> Keeper<S, T> {
     ghost use Rattle.ob_commit.specs.Keeps.{KeepsNumbers};
     ghost use Rattle.ob_store.specs.Acting.{Acted, HasActCause, IsActStop, under};
     ghost use Rattle.ob_store.specs.Replying.{Replied};
-    ghost use Rattle.ob_store.specs.Whole.{ActedAll, HasListCause, LeavesAllActed, no_book};
+    ghost use Rattle.ob_store.specs.Whole.{ActedAll, CommitsOf, HasListCause, LeadTo, no_book};
     ghost use Rattle.ob_store.specs.Creating.{Created, HasCreateCause};
     ghost use Rattle.ob_store.specs.Loading.{Audited, Loaded};
     ghost use Rattle.ob_store.specs.Migrating.{KeepsOldBook, LeavesKept, LeftAsItWas, Migrated, MigratesKept, MigratesOn};
@@ -197,8 +197,7 @@ impl<S: Alter, T: Timeline> Keeper<S, T> {
             → KeepsNumbers (state S.Store self.old.conn)
             → KeepsNumbers (state S.Store self.new.conn) }
         // a crash leaves what it could leave before, or that with all commands of the list
-        ensures survives { Survives (state S.Store self.old.conn) (state S.Store self.new.conn)
-            (LeavesAllActed S.Store self.old list.now) }
+        ensures commits { CommitsOf S.Store (LeadTo list.now) self.old self.new }
     {
         let Some(book) = &mut self.book else {
             return Err(Halted {
