@@ -1,8 +1,10 @@
 -- What an import of a whole text makes of a book: all of its rows, or none.
-use Rattle.std.specs.Prelude.{◌≡◌, ◌↔◌, ◌⊎◌, ◌≤◌, ℕ, ◌+◌, ⊤, List, [], ◌∷◌, length, Option, Some, None, Result, Ok, Err, nat_lt, MatchOption, IfErr, IfOk, IsSome, option_map}
+use Rattle.std.specs.Prelude.{◌≡◌, ◌↔◌, ◌⊎◌, ◌≤◌, ℕ, ◌+◌, ◌-◌, ⊤, List, [], ◌∷◌, length, Option, Some, None, Result, Ok, Err, nat_lt, MatchOption, IfErr, IfOk, IsSome, option_map}
 use Rattle.std.specs.Bool.{MatchBool}
 use Rattle.ob_base.specs.declared.stop.Fault.{Fault}
 use Rattle.ob_base.specs.declared.stop.Fault.TheVariants.{OutOfMemory, Store, Reopen, Input, Output}
+use Rattle.ob_base.specs.declared.stop.Stop.{Stop}
+use Rattle.ob_base.specs.declared.stop.Stop.TheVariants as stops
 use Rattle.ob_base.specs.declared.stop.Refusal.{Refusal}
 use Rattle.ob_base.specs.declared.stop.Refusal.TheVariants.{Full}
 use Rattle.ob_csv.specs.Rows.{Fields, rows_of}
@@ -14,6 +16,7 @@ use Rattle.ob_book.specs.Acts.{ActState}
 use Rattle.ob_store.specs.Calls.{IfHeld, IfStored, WasClean}
 use Rattle.ob_store.specs.Keepers.{Ghosts, Holds, KeeperValue, Stores, StoresEither, Ties}
 use Rattle.ob_store.specs.Whole.{CommitsOf, Line}
+use Rattle.ob_store.specs.declared.whole.Halted.{Halted}
 use Rattle.ob_import.specs.Gathering.{IsWithin}
 use Rattle.ob_import.specs.Imports.{Import, Imports, after_header}
 use Rattle.ob_import.specs.Reports.{AreRows, HasCause, import_as, no_book}
@@ -32,6 +35,23 @@ AreLines number (row ∷ rows) (Ok said ∷ list) = IsLine number row (Ok said) 
 AreLines number (row ∷ rows) (Err refusal ∷ list) = IsLine number row (Err refusal) × (list ≡ [])
 AreLines number [] (line ∷ list) = ⊥
 AreLines number (row ∷ rows) [] = ⊥
+
+-- the same of the rows after a header, where there is one
+abbrev pub AreLinesOf : Option (List Fields) → Option (List Line) → Type 0
+AreLinesOf None None = ⊤
+AreLinesOf (Some rows) (Some list) = AreLines 1 rows list
+AreLinesOf None (Some list) = ⊥
+AreLinesOf (Some rows) None = ⊥
+
+-- the result of an import that nothing was added of, since the list stopped at this place
+abbrev pub IsStopOf : ℕ → Stop → Result ImportReport ImportFault → Type 0
+IsStopOf place (stops.Refused refusal) result = result ≡ Ok (record { added = 0; again = 0; stopped = Some (place + 1, refusal) })
+IsStopOf place (stops.Fault fault) result = result ≡ Err (record { fault = fault; added = 0; again = 0 })
+
+-- the result of an import from that of a list of so many lines
+abbrev pub IsEndOf : Result ℕ Halted → ℕ → Result ImportReport ImportFault → Type 0
+IsEndOf (Ok added) lines result = result ≡ Ok (record { added = added; again = lines - added; stopped = None })
+IsEndOf (Err e) lines result = IsStopOf e.place e.stop result
 
 -- ---- what is left of an import
 -- an import of the rows of a text, its header among them, takes them all and leads the one book to the other

@@ -1,9 +1,9 @@
 //! The import of a whole text: all of its rows in one transaction, or none.
-ghost use Rattle.std.specs.Prelude.{◌≡◌, false, length, IsSome, IfErr, IfOk};
-ghost use Rattle.ob_csv.specs.Rows.{TakesRow, rows_of};
+ghost use Rattle.std.specs.Prelude.{◌≡◌, ◌≤◌, length, List, Some, option_map, IsSome, IfErr, IfOk, IfSome};
+ghost use Rattle.ob_csv.specs.Rows.{Fields, rows_of};
 ghost use Rattle.ob_csv.specs.RowReading.{rows_left};
-ghost use Rattle.ob_base.specs.Stop.{out_of_memory};
-ghost use Rattle.ob_import.specs.Whole.{AreLinesOf, EndsWhole, HasFailed, IsLine, RunsWhole, WholeOf};
+ghost use Rattle.ob_import.specs.Imports.{after_header};
+ghost use Rattle.ob_import.specs.Whole.{AreLines, AreLinesOf, IsEndOf, IsLine, RunsWhole, WholeOf};
 
 use crate::acting::command_in;
 use crate::gather::gather;
@@ -80,26 +80,53 @@ fn read_lines<R: Read>(
     alloc: Global,
     rows: &mut RowReader<R>,
 ) -> Result<Option<Vec<Result<(Ref, Command), Refusal>>>, Fault>
-    ensures lines { IfOk result (λ found. AreLinesOf (rows_left R.remaining rows.old) found) }
+    ensures lines { (all : List Fields) → rows_left R.remaining rows.old ≡ Some all
+        → IfOk result (λ found. AreLinesOf (after_header all) (option_map (λ lines. lines.items) found)) }
+    ensures few { IfOk result (λ found. IfSome found (λ lines. length lines.items ≤ 1_000_001)) }
     ensures faults { IfErr result (λ fault. fault ≡ Fault.OutOfMemory) }
 {
     let mut row = Row::new(alloc);
-    if !take_row(rows, &mut row, true)? || !row.is_header() {
+    let found = match take_row(rows, &mut row, true) {
+        Ok(found) => found,
+        Err(fault) => return Err(fault),
+    };
+    if !found || !row.is_header() {
         return Ok(None);
     }
+    match read_body(alloc, rows) {
+        Ok(lines) => Ok(Some(lines)),
+        Err(fault) => Err(fault),
+    }
+}
+
+/// Reads rows as the lines of a list, up to the first that says no command.
+fn read_body<R: Read>(
+    alloc: Global,
+    rows: &mut RowReader<R>,
+) -> Result<Vec<Result<(Ref, Command), Refusal>>, Fault>
+    ensures lines { (all : List Fields) → rows_left R.remaining rows.old ≡ Some all
+        → IfOk result (λ lines. AreLines 1 all lines.items) }
+    ensures few { IfOk result (λ lines. length lines.items ≤ 1_000_001) }
+    ensures faults { IfErr result (λ fault. fault ≡ Fault.OutOfMemory) }
+{
     let mut lines = Vec::new(alloc);
-    for number in 1..MOST_ROWS + 2 {
-        if !take_row(rows, &mut row, true)? {
-            return Ok(Some(lines));
+    let mut row = Row::new(alloc);
+    'text: for number in 1..MOST_ROWS + 2 {
+        match take_row(rows, &mut row, true) {
+            Ok(true) => {}
+            Ok(false) => return Ok(lines),
+            Err(fault) => return Err(fault),
         }
         let line = line_of(number, &row);
-        let is_last = line.is_err();
-        lines.push(line).map_err(|_| Fault::OutOfMemory)?;
-        if is_last {
-            return Ok(Some(lines));
+        let goes_on = line.is_ok();
+        if lines.push(line).is_err() {
+            return Err(Fault::OutOfMemory);
+        }
+        if !goes_on {
+            return Ok(lines);
         }
     }
-    Ok(Some(lines))
+    Ok(lines)
 }
 
 /// What the row of this number says, counted from 1.
@@ -115,6 +142,10 @@ fn line_of(number: u32, row: &Row) -> Result<(Ref, Command), Refusal>
 
 /// The result of an import from that of its list of so many lines.
 fn end_of(run: Result<usize, Halted>, lines: usize) -> Result<ImportReport, ImportFault>
+    requires few { lines ≤ 1_000_001 }
+    requires added { IfOk run (λ added. added ≤ lines) }
+    requires place { IfErr run (λ e. e.place ≤ lines) }
+    ensures { IsEndOf run lines result }
 {
     match run {
         Ok(added) => Ok(ImportReport {
@@ -131,6 +162,7 @@ fn end_of(run: Result<usize, Halted>, lines: usize) -> Result<ImportReport, Impo
 
 /// The report of an import that added nothing, since this row was refused.
 fn stopped_at(number: u32, refusal: Refusal) -> ImportReport
+    ensures { result ≡ record { added = 0; again = 0; stopped = Some (number, refusal) } }
 {
     ImportReport {
         added: 0,

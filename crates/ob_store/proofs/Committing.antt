@@ -1,5 +1,6 @@
 -- What a transaction over the tables of a book leaves of the store, committed or not.
-use Rattle.std.proofs.Common.{◌≡◌, ◌⊎◌, ◌+◌, ℕ, List, [], length, Ok, Err, IsTrue, false, inl, inr, refl, ap, arith}
+use Rattle.std.proofs.Common.{◌≡◌, ◌⊎◌, ◌+◌, ℕ, List, [], length, Option, Some, Ok, Err, IsTrue, false, inl, inr, refl, sym, ap, subst, arith}
+use Rattle.std.specs.Prelude.{IfSome, IsSome}
 use Rattle.sqlite_trees.specs.declared.store.Store.{Ghosts}
 use Rattle.sqlite.specs.Held.{Held, state}
 use Rattle.sqlite.specs.State.{State, HasCleanDisk, IsLive, IsRolledBack, Shows, Survives}
@@ -16,8 +17,8 @@ use Rattle.ob_commit.specs.Keeps.{KeepsNumbers, Leaves, WasUndone}
 use Rattle.ob_commit.proofs.Commits.{committed, failed, failed_cause, leaves, numbered_commit, numbers_shown, of_two, undone}
 use Rattle.ob_record.specs.Tables.{tables_of}
 use Rattle.ob_store.specs.Acting.{IsActStop}
-use Rattle.ob_store.specs.Keeping.{KeepsBook}
-use Rattle.ob_store.specs.Whole.{ActsAll, EndsAt, Halts, IsWhole, KeepsFirstOrLast, LeadTo, LedBy, Line, ShowsBook, after_lines}
+use Rattle.ob_store.specs.Keeping.{KeeperValue, KeepsBook, Ties}
+use Rattle.ob_store.specs.Whole.{ActedAll, ActsAll, CommitsOf, EndsAt, Halts, IsWhole, KeepsFirstOrLast, LeadTo, LeavesLast, LedBy, Line, ShowsBook, after_lines}
 
 -- the transaction that has begun
 abbrev pub begun : State → State
@@ -102,3 +103,25 @@ commit_cause g old last end is b list added it live keeps quiet ends e clean fai
       | inl failed ↦ inl failed
       | inr undone ↦ inr (it.book, it.lead, undone)
     ]
+
+-- ---- a keeper
+pub acted_ok : {S : Type 0} (g : Ghosts S) (conn : Held S) (is : BookState) (b : ActState) (list : List Line) (added : ℕ) → ActsAll g conn is b list (Ok added)
+    → ActedAll g (record { conn = conn; book = Some is }) b list (Ok added)
+acted_ok g conn is b list added it = (it.0, it.1, it.2, record { kept = it.3; book = it.4 }, refl)
+
+-- a crash leaves what the transaction may leave
+pub commits_of : {S : Type 0} (g : Ghosts S) (k : KeeperValue S) (old new : Held S) (book : Option BookState) (was : BookState) (list : List Line) → old ≡ k.conn → k.book ≡ Some was
+    → Survives (state g old) (state g new) (LeavesLast (state g old) was list) → CommitsOf g (LeadTo list) k (record { conn = new; book = book })
+commits_of g k old new book was list conn_is book_is it =
+    subst (λ h. Survives (state g h) (state g new) (λ trees. (b : ActState) → Ties g k b → IsSome k.book → (c : ActState) × LeadTo list b c × Leaves (tables_of c) trees)) conn_is
+    (record {
+      clean = it.clean;
+      shield = it.shield;
+      counts = it.counts;
+      limit = it.limit;
+      closes = it.closes;
+      crash = λ clean db may. elim (it.crash clean db may) [
+        | inl before ↦ inl before
+        | inr leads ↦ inr (λ b ties some. leads b (subst (λ h. KeepsBook (state g h) b) (sym conn_is) ties.kept) (subst (λ o. IfSome o (λ s. s ≡ b.book)) book_is ties.book))
+      ];
+    })

@@ -178,6 +178,7 @@ impl<S: Alter, T: Timeline> Keeper<S, T> {
         ensures reopen { (self.old.book ≡ None) ↔ (result ≡ no_book) }
         ensures unopened { self.old.book ≡ None → self.new ≡ self.old }
         ensures few { IfOk result (λ added. added ≤ length list.now) }
+        ensures within { IfErr result (λ e. e.place ≤ length list.now) }
         ensures faults { IsSome self.old.book → IfErr result (λ e. IsActStop e.stop) }
         ensures dropped { IsSome self.old.book → (self.new.book ≡ None) ↔ IsErr result }
         ensures clean { HasCleanDisk (state S.Store self.new.conn)

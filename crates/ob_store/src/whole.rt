@@ -155,6 +155,7 @@ fn act_lines<S: Alter, T: Timeline, P: Progress>(
     ensures same_reference { tx.new.conn.ghost_name ≡ tx.old.conn.ghost_name }
     ensures silent { Silent (state S.Store tx.old.conn.now) (state S.Store tx.new.conn.now) }
     ensures few { IfOk result (λ added. added ≤ length list.now) }
+    ensures within { IfErr result (λ e. e.place ≤ length list.now) }
     ensures faults { IfErr result (λ e. IsActStop e.stop) }
     ensures live { HasCleanDisk (state S.Store tx.new.conn.now) → 0 < length list.now
         → OnOk result (IsTrue (state S.Store tx.old.conn.now).is_open) }
@@ -191,6 +192,7 @@ pub(crate) fn act_all_on<S: Alter, T: Timeline, P: Progress>(
     requires mode { conn.old.in_transaction ≡ false }
     ensures mode { conn.new.in_transaction ≡ false }
     ensures few { IfOk result (λ added. added ≤ length list.now) }
+    ensures within { IfErr result (λ e. e.place ≤ length list.now) }
     ensures faults { IfErr result (λ e. IsActStop e.stop) }
     ensures acts { HasCleanDisk (state S.Store conn.new) → (b : ActState)
         → KeepsBook (state S.Store conn.old) b → book.old.state ≡ b.book
