@@ -106,11 +106,7 @@ fn import_command<'a>(alloc: Global) -> Result<Command<'a>, AllocError>
     ensures local { IfOk result (λ c. (out-Command c).has_globals ≡ false) }
 {
     book_command(alloc, "import", "Acts the commands of a CSV file on a book")?
-        .arg(flag_option(
-            alloc,
-            "whole",
-            "Adds all rows of the file, or none",
-        ))?
+        .arg(flag_option(alloc, "whole", "Adds all rows of the file, or none"))?
         .arg(file_word(alloc, "INPUT", "The CSV file to read"))
 }
 

@@ -1,7 +1,7 @@
 //! The calls of a `Keeper` that the tests use, and the trials that use them.
 use crate::jobs::calls::{
-    Ask, Told, audits, exports, imports, imports_whole, lacks_export, lacks_import, lacks_list, lacks_table,
-    lists, makes, migrates, prints, serves,
+    Ask, Told, audits, exports, imports, imports_whole, lacks_export, lacks_import, lacks_list,
+    lacks_table, lists, makes, migrates, prints, serves,
 };
 use crate::sinks::Shelf;
 use ob_harness::{Sink, Source, WHOLE};

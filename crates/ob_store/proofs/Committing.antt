@@ -12,9 +12,12 @@ use Rattle.ob_base.specs.declared.stop.Stop.TheVariants.{Refused, Fault}
 use Rattle.ob_base.specs.declared.stop.Fault.TheVariants.{OutOfMemory, Store, Reopen, Input, Output}
 use Rattle.ob_state.specs.State.{BookState}
 use Rattle.ob_book.specs.Acts.{ActState}
+use Rattle.sqlite_catalog.specs.Listing.{IsSound}
+use Rattle.ob_tables.specs.Rows.{Holds}
+use Rattle.ob_tables.specs.Schema.{book_schema}
 use Rattle.ob_tables.specs.Steps.{HasFailed, Makes, Silent}
 use Rattle.ob_commit.specs.Keeps.{KeepsNumbers, Leaves, WasUndone}
-use Rattle.ob_commit.proofs.Commits.{committed, failed, failed_cause, leaves, numbered_commit, numbers_shown, of_two, undone}
+use Rattle.ob_commit.proofs.Commits.{committed, failed, failed_cause, numbered_commit, numbers_shown, of_two, undone}
 use Rattle.ob_record.specs.Tables.{tables_of}
 use Rattle.ob_store.specs.Acting.{IsActStop}
 use Rattle.ob_store.specs.Keeping.{KeeperValue, KeepsBook, Ties}
@@ -72,7 +75,15 @@ module _ (old last end : State) (is : BookState) (b : ActState) (list : List Lin
   -- what a crash then leaves is the first book or the last
   pub left_last : HasCleanDisk end → (trees : Trees) → trees ≡ last.now.trees → Leaves (tables_of it.book) trees
   left_last clean trees is =
-      leaves old last end (tables_of b) (λ t. t ≡ tables_of b) (λ t. tables_of it.book) whole keeps.kept refl quiet (λ late. of_two (made old last _ b list added it live)) ends clean trees is
+      let late : HasCleanDisk last = omega (arith, ends.clean, clean) in
+      let first : HasCleanDisk old = omega (arith, quiet.survives.clean, late) in
+      let m = made old last _ b list added it live in
+      let was = keeps.kept.settled first live in
+      let has = m.schema was.schema in
+      record {
+        sound = subst (IsSound book_schema) (sym is) (subst (λ s. IsSound s last.now.trees) has (m.sound was.schema (whole live).0));
+        holds = subst (λ x. Holds x (tables_of it.book)) (sym is) (m.holds was.schema (tables_of b) was.holds refl);
+      }
 
   pub kept_last : (HasCleanDisk end → Shows last end last.now last.now false) → (IsTrue end.is_open → (trees : Trees) → end.may_leave trees → trees ≡ end.committed.trees) → KeepsBook end it.book
   kept_last shows law = record {
@@ -82,13 +93,17 @@ module _ (old last end : State) (is : BookState) (b : ActState) (list : List Lin
   }
 
   pub kept_either : (e : Error) → (HasCleanDisk end → FailsToCommit last end e) → KeepsFirstOrLast end b list
-  kept_either e fails = inr (it.book, it.lead, record {
-    kept = failed old last end (tables_of b) (λ t. t ≡ tables_of b) (λ t. tables_of it.book) whole keeps.kept refl quiet (λ late. of_two (made old last _ b list added it live)) ends e fails;
-    reached = keeps.reached;
-    other_reached = it.reached;
-    valid = keeps.valid;
-    other_valid = it.valid;
-  })
+  kept_either e fails = inr (
+    it.book,
+    it.lead,
+    record {
+      kept = failed old last end (tables_of b) (λ t. t ≡ tables_of b) (λ t. tables_of it.book) whole keeps.kept refl quiet (λ late. of_two (made old last _ b list added it live)) ends e fails;
+      reached = keeps.reached;
+      other_reached = it.reached;
+      valid = keeps.valid;
+      other_valid = it.valid;
+    },
+  )
 
   pub numbers_last : KeepsNumbers old → (IsTrue old.is_open → old.may_leave old.committed.trees) → KeepsNumbers end
   numbers_last numbers stays =

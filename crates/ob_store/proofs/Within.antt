@@ -173,10 +173,13 @@ by_open old new (Err stop) told = λ store. elim (cases_Bool old.is_open) [
 ]
 
 -- ---- the lines of a list
-pub drop_next : {X : Type 0} (xs : List X) (n : ℕ) (d : X) → n < length xs → drop n xs ≡ get_or xs n d ∷ drop (n + 1) xs
-drop_next [] n d low = absurd (omega (arith, low))
-drop_next (x ∷ xs) zero d low = refl
-drop_next (x ∷ xs) (suc n) d low = drop_next xs n d (omega (arith, low))
+drop_suc : {X : Type 0} (xs : List X) (n : ℕ) (d : X) → n < length xs → drop n xs ≡ get_or xs n d ∷ drop (suc n) xs
+drop_suc [] n d low = absurd (omega (arith, low))
+drop_suc (x ∷ xs) zero d low = refl
+drop_suc (x ∷ xs) (suc n) d low = drop_suc xs n d (omega (arith, low))
+
+drop_next : {X : Type 0} (xs : List X) (n : ℕ) (d : X) → n < length xs → drop n xs ≡ get_or xs n d ∷ drop (n + 1) xs
+drop_next xs n d low = let e : suc n ≡ n + 1 = omega arith in drop_suc xs n d low ∙ ap (λ k. get_or xs n d ∷ drop k xs) e
 
 goes_past : (r : Result Reply Refusal) (place : ℕ) (rest : Result ActState (ℕ × Refusal)) → is_ok r ≡ true → goes_on r place rest ≡ rest
 goes_past (Ok reply) place rest ok = refl

@@ -89,11 +89,14 @@ returns-in-Ok-commit-clause-acts g c clean b keeps same =
     let some : 0 < length c.args.list.now = search rules in
     let live = (rw c.transaction-tx.ensures.begun at c.in-Ok.ensures.live) late some in
     let it = (rw c.transaction-tx.ensures.begun at c.in-Ok.ensures.tries) late b (shows_begun old b first keeps) same in
-    subst (λ x. ActsAll g.S.Store x c.act_lines.new.book.state b c.args.list.now _) same_end
-    (it.book, it.lead, it.count,
-    kept_last old last (state g.S.Store end) c.act_lines.new.book.state b c.args.list.now c.in-Ok.added it live c.schema-schema.ensures.live keeps quiet c.commit.ensures.survives (λ clean. (c.in-Ok-commit.ensures.ok clean).1)
-    (λ live trees may. g.met.S.Store.settled end.store trees live may),
-    it.memory)
+    subst (λ x. ActsAll g.S.Store x c.act_lines.new.book.state b c.args.list.now _) same_end (
+      it.book,
+      it.lead,
+      it.count,
+      kept_last old last (state g.S.Store end) c.act_lines.new.book.state b c.args.list.now c.in-Ok.added it live c.schema-schema.ensures.live keeps quiet c.commit.ensures.survives (λ clean. (c.in-Ok-commit.ensures.ok clean).1)
+          (λ live trees may. g.met.S.Store.settled end.store trees live may),
+      it.memory,
+    )
 
 pub returns-in-Ok-commit-clause-numbered : goal.returns-in-Ok-commit-clause-numbered
 returns-in-Ok-commit-clause-numbered g c b keeps same numbers =

@@ -1,0 +1,14 @@
+use Rattle.std.proofs.Common.{◌≡◌}
+use Rattle.ob_csv.specs.Rows.{rows_of}
+use Rattle.ob_import.specs.Imports.{after_header}
+use Rattle.ob_import.proofs.Wholly.{header_of, none_of, runs_headless, runs_starved, runs_whole}
+use Rattle.ob_import.proofs.whole.import_lines.Goals as goal
+
+pub returns : goal.returns
+returns g c =
+    let all = rows_of c.args.text.now in
+    let list = c.in-Ok-Some.lines.items in
+    let it = header_of (after_header all) list (rw c.in-Ok-Some.field-0-is at (c.in-Ok-Some.ensures.lines all c.new-rows.ensures.rows)) in
+    let acted = c.act_all-run.ensures in
+    runs_whole g.S.Store c.args.keeper.now c.act_all-run.new.self all it.0 list c.act_all-run.result c.end_of.result it.1 it.2 acted.clean (acted.faults c.requires) (rw c.deref.ensures.value at acted.acted) (rw c.deref.ensures.value at acted.commits)
+    (rw c.len.ensures at c.end_of.ensures)
