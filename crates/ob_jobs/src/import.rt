@@ -1,7 +1,7 @@
 //! The job that applies the commands of a CSV file to a book.
 ghost use Rattle.std.specs.Prelude.{◌≡◌, Ok, IfOk, string_bytes};
 ghost use Rattle.ob_jobs.specs.After.{TellsAfter};
-ghost use Rattle.ob_jobs.specs.Books.{ImportsIntoBook, ImportsWholeIntoBook};
+ghost use Rattle.ob_jobs.specs.Books.{ImportsIntoBook};
 ghost use Rattle.ob_jobs.specs.Importing.{import_line};
 
 use crate::ending::end_of_import;
@@ -9,7 +9,7 @@ use crate::opening::OpenInput;
 use crate::tell::tell;
 use ob_base::{Fault, Stop};
 use ob_cli::Unfinished;
-use ob_import::{ImportReport, Progress, import_whole, import_with_progress};
+use ob_import::{ImportReport, Progress, import_with_progress};
 use ob_store::{Alter, Keeper};
 use ob_stream::Watched;
 use ob_sweep::Timeline;
@@ -47,36 +47,8 @@ pub fn import_into_book<O: OpenInput, S: Alter, T: Timeline, P: Progress, W: Wri
     }
 }
 
-/// Loads a book, then opens the input, and applies the commands of its CSV text as a whole, as
-/// [`ob_import::import_whole`]. Writes the line that `import_into_book` writes; if a row was
-/// refused, both numbers are 0, nothing was added, and the job ends as `Unfinished::Stopped`.
-///
-/// # Errors
-///
-/// Those of `import_into_book`. After `Fault::Output` all commands are in the book.
-pub fn import_whole_into_book<O: OpenInput, S: Alter, T: Timeline, P: Progress, W: Write>(
-    alloc: Global,
-    keeper: &mut Keeper<S, T>,
-    input: &mut O,
-    progress: &mut P,
-    writer: &mut Watched<W>,
-) -> Result<(), Unfinished>
-    ensures { ImportsWholeIntoBook S.Store O.opens O.Input.remaining W.contents keeper.old
-        keeper.new input.old input.new writer.old writer.new result }
-{
-    keeper.load_with_progress(progress)?;
-    let Some(opened) = input.open() else {
-        return Err(Unfinished::from(Stop::Fault(Fault::Input)));
-    };
-    let mut reader = Watched::new(opened);
-    match import_whole(alloc, &mut reader, keeper, progress) {
-        Ok(report) => end_of_import(tell_report(alloc, report, writer)),
-        Err(failed) => Err(Unfinished::from(Stop::Fault(failed.fault))),
-    }
-}
-
 /// Writes the number of rows applied, and returns the report unchanged.
-fn tell_report<W: Write>(
+pub(crate) fn tell_report<W: Write>(
     alloc: Global,
     report: ImportReport,
     writer: &mut Watched<W>,

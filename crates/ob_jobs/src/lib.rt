@@ -12,6 +12,7 @@ mod audit;
 mod ending;
 mod export;
 mod import;
+mod import_whole;
 mod init;
 mod interruptions;
 mod line;
@@ -27,7 +28,8 @@ mod tell;
 
 pub use audit::{audit_book, run_audit};
 pub use export::{export_from_book, run_export};
-pub use import::{import_into_book, import_whole_into_book};
+pub use import::import_into_book;
+pub use import_whole::import_whole_into_book;
 pub use init::{make_book, run_init};
 pub use interruptions::{interruptions_from_book, run_interruptions};
 pub use migrate::{migrate_book, run_migrate};

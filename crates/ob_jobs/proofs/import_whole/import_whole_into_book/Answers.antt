@@ -6,7 +6,7 @@ use Rattle.ob_import.specs.Whole.{WholeOf}
 use Rattle.ob_stream.specs.Watching.{watched_bytes}
 use Rattle.ob_jobs.specs.Importing.{ImportsAs, import_line}
 use Rattle.ob_jobs.proofs.After.{stopped_after, told_after}
-use Rattle.ob_jobs.proofs.import.import_whole_into_book.Goals as goal
+use Rattle.ob_jobs.proofs.import_whole.import_whole_into_book.Goals as goal
 
 pub returns-in_err-load_with_progress : goal.returns-in_err-load_with_progress
 returns-in_err-load_with_progress g c =
