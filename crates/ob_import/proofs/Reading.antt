@@ -1,6 +1,7 @@
 -- The rows of a text that were read as lines so far.
 use Rattle.std.proofs.Common.{◌≡◌, ◌≢◌, ◌≤◌, ◌∙◌, sym, ap, subst, refl, ℕ, ◌+◌, Bool, true, false, List, [], ◌∷◌, ◌++◌, length, Option, Some, None, Result, Ok, Err, nat_lt, arith, append_assoc, append-nil}
 use Rattle.std.specs.Prelude.{if◌then◌else◌}
+use Rattle.std.specs.Result.{is_ok}
 use Rattle.ob_base.specs.declared.stop.Fault.{Fault}
 use Rattle.ob_base.specs.declared.stop.Fault.TheVariants as faults
 use Rattle.ob_base.specs.declared.stop.Refusal.{Refusal}
@@ -60,6 +61,17 @@ read_last all left after list row refusal it takes is =
     let next = took left after it.later row it.is_left takes in
     subst (λ rows. AreLines 1 rows (list ++ Err refusal ∷ [])) (sym (it.parts ∙ ap (λ l. it.done ++ l) next.2))
     (lines_last 1 it.done next.0 list row refusal it.said (let e : length list + 1 ≡ 1 + length list = omega arith in subst (λ n. IsLine n row (Err refusal)) e is))
+
+-- a row that says a command, or none
+pub read_next : (all : List Fields) (left after : Option (List Fields)) (list : List Line) (row : Fields) (line : Line) → SoRead all left list → TakesRow left after true row → IsLine (length list + 1) row line → is_ok line ≡ true
+    → SoRead all after (list ++ line ∷ [])
+read_next all left after list row (Ok said) it takes is ok = read_more all left after list row said it takes is
+read_next all left after list row (Err refusal) it takes is ok = absurd (let e : false ≡ true = ok in cc)
+
+pub read_end : (all : List Fields) (left after : Option (List Fields)) (list : List Line) (row : Fields) (line : Line) → SoRead all left list → TakesRow left after true row → IsLine (length list + 1) row line → is_ok line ≡ false
+    → AreLines 1 all (list ++ line ∷ [])
+read_end all left after list row (Ok said) it takes is ok = absurd (let e : true ≡ false = ok in cc)
+read_end all left after list row (Err refusal) it takes is ok = read_last all left after list row refusal it takes is
 
 -- more rows than a text may have are never read as commands
 pub read_few : (all : List Fields) (left : Option (List Fields)) (list : List Line) → SoRead all left list → length list ≤ 1_000_000

@@ -1,5 +1,5 @@
 -- What a transaction over the tables of a book leaves of the store, committed or not.
-use Rattle.std.proofs.Common.{◌≡◌, ◌⊎◌, ◌+◌, ℕ, List, [], length, Option, Some, Ok, Err, IsTrue, false, inl, inr, refl, sym, ap, subst, arith}
+use Rattle.std.proofs.Common.{◌≡◌, ◌⊎◌, ◌+◌, ℕ, List, [], length, Option, Some, Ok, Err, IsTrue, true, false, inl, inr, refl, sym, ap, subst, arith}
 use Rattle.std.specs.Prelude.{IfSome, IsSome}
 use Rattle.sqlite_trees.specs.declared.store.Store.{Ghosts}
 use Rattle.sqlite.specs.Held.{Held, state}
@@ -115,8 +115,8 @@ pub commit_cause : {S : Type 0} (g : Ghosts S) (old : State) (last : Held S) (en
     → HasFailed old end ⊎ ((c : ActState) × LeadTo list b c × WasUndone g end (tables_of c))
 commit_cause g old last end is b list added it live keeps quiet ends e clean fails =
     elim (failed_cause g old last end (tables_of b) (λ t. t ≡ tables_of b) (λ t. tables_of it.book) keeps.kept refl quiet (λ late. of_two (made old (state g last) is b list added it live)) ends e clean fails) [
-      | inl failed ↦ inl failed
-      | inr undone ↦ inr (it.book, it.lead, undone)
+      | inl broke ↦ inl broke
+      | inr back ↦ inr (it.book, it.lead, back)
     ]
 
 -- ---- a keeper

@@ -104,7 +104,7 @@ fn act_within<S: Alter, T: Timeline>(
     };
     match look_up_within(tx, reference.bytes(), &body) {
         Ok(Known::New) => enter(tx, book, reference, command, &body),
-        Ok(Known::Same(_)) => Ok(false),
+        Ok(Known::Same(_no)) => Ok(false),
         Ok(Known::Other(no)) => Err(Stop::Refused(Refusal::RefConflict(no))),
         Err(stop) => Err(stop),
     }

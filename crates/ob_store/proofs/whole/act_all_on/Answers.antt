@@ -1,4 +1,6 @@
 use Rattle.std.proofs.Common.{◌≡◌, ◌⊎◌, ◌<◌, length, inl, rules, sym, subst, arith}
+use Rattle.std.proofs.lemmas.Bool.Decides.{nat_tests}
+use Rattle.std.proofs.lemmas.List.{nil_from_length}
 use Rattle.sqlite.specs.Held.{state}
 use Rattle.sqlite.specs.State.{HasCleanDisk, Survives}
 use Rattle.sqlite.proofs.StateLemmas.{survives_then}
@@ -15,7 +17,7 @@ use Rattle.ob_store.proofs.whole.act_all_on.Goals as goal
 -- ---- an empty list
 pub returns-then-is_empty-clause-acts : goal.returns-then-is_empty-clause-acts
 returns-then-is_empty-clause-acts g c clean b keeps same =
-    acts_none g.S.Store c.args.conn.now c.args.book.now.state b c.args.list.now (search rules) keeps same
+    acts_none g.S.Store c.args.conn.now c.args.book.now.state b c.args.list.now (nil_from_length c.args.list.now (let none : length c.args.list.now ≡ 0 = grind (arith, nat_tests, c.is_empty.ensures, c.if-is_empty.true) in none)) keeps same
 
 pub returns-then-is_empty-clause-survives : goal.returns-then-is_empty-clause-survives
 returns-then-is_empty-clause-survives g c = survives_same (state g.S.Store c.args.conn.now) (LeavesLast (state g.S.Store c.args.conn.now) c.args.book.now.state c.args.list.now)
@@ -86,7 +88,7 @@ returns-in-Ok-commit-clause-acts g c clean b keeps same =
     let done : HasCleanDisk (state g.S.Store end) = subst (λ x. HasCleanDisk (state g.S.Store x)) (sym same_end) clean in
     let late : HasCleanDisk last = omega (arith, c.commit.ensures.survives.clean, done) in
     let first : HasCleanDisk old = omega (arith, quiet.survives.clean, late) in
-    let some : 0 < length c.args.list.now = search rules in
+    let some : 0 < length c.args.list.now = grind (arith, nat_tests, c.is_empty.ensures, c.if-is_empty.false) in
     let live = (rw c.transaction-tx.ensures.begun at c.in-Ok.ensures.live) late some in
     let it = (rw c.transaction-tx.ensures.begun at c.in-Ok.ensures.tries) late b (shows_begun old b first keeps) same in
     subst (λ x. ActsAll g.S.Store x c.act_lines.new.book.state b c.args.list.now _) same_end (
@@ -106,7 +108,7 @@ returns-in-Ok-commit-clause-numbered g c b keeps same numbers =
     let end = c.commit.new.self.0 in
     let same_end : end ≡ c.conn-2-1.given.0 = search rules in
     let quiet : Silent old last = silent_begin g.S.Store h last (subst (λ x. Silent (state g.S.Store x) last) c.transaction-tx.ensures.begun c.act_lines.ensures.silent) in
-    let some : 0 < length c.args.list.now = search rules in
+    let some : 0 < length c.args.list.now = grind (arith, nat_tests, c.is_empty.ensures, c.if-is_empty.false) in
     subst (λ x. KeepsNumbers (state g.S.Store x)) same_end (λ clean trees may.
     let late : HasCleanDisk last = omega (arith, c.commit.ensures.survives.clean, clean) in
     let first : HasCleanDisk old = omega (arith, quiet.survives.clean, late) in
@@ -123,7 +125,7 @@ returns-in-Ok-commit-clause-survives g c =
     let end = c.commit.new.self.0 in
     let same_end : end ≡ c.conn-2-1.given.0 = search rules in
     let quiet : Silent old last = silent_begin g.S.Store h last (subst (λ x. Silent (state g.S.Store x) last) c.transaction-tx.ensures.begun c.act_lines.ensures.silent) in
-    let some : 0 < length c.args.list.now = search rules in
+    let some : 0 < length c.args.list.now = grind (arith, nat_tests, c.is_empty.ensures, c.if-is_empty.false) in
     let commits = LeavesLast old c.args.book.now.state c.args.list.now in
     subst (λ x. Survives old (state g.S.Store x) commits) same_end
     (survives_then old last (state g.S.Store end) _ _ commits (λ _ db none. absurd none) (λ clean db is b keeps same.
@@ -146,7 +148,7 @@ returns-in-Err-commit-clause-acts g c clean b keeps same =
     let done : HasCleanDisk (state g.S.Store end) = subst (λ x. HasCleanDisk (state g.S.Store x)) (sym same_end) clean in
     let late : HasCleanDisk last = omega (arith, c.commit.ensures.survives.clean, done) in
     let first : HasCleanDisk old = omega (arith, quiet.survives.clean, late) in
-    let some : 0 < length c.args.list.now = search rules in
+    let some : 0 < length c.args.list.now = grind (arith, nat_tests, c.is_empty.ensures, c.if-is_empty.false) in
     let live = (rw c.transaction-tx.ensures.begun at c.in-Ok.ensures.live) late some in
     let it = (rw c.transaction-tx.ensures.begun at c.in-Ok.ensures.tries) late b (shows_begun old b first keeps) same in
     subst (λ x. KeepsFirstOrLast (state g.S.Store x) b c.args.list.now) same_end
@@ -163,7 +165,7 @@ returns-in-Err-commit-clause-cause g c clean b keeps numbers same store =
     let done : HasCleanDisk (state g.S.Store end) = subst (λ x. HasCleanDisk (state g.S.Store x)) (sym same_end) clean in
     let late : HasCleanDisk last = omega (arith, c.commit.ensures.survives.clean, done) in
     let first : HasCleanDisk old = omega (arith, quiet.survives.clean, late) in
-    let some : 0 < length c.args.list.now = search rules in
+    let some : 0 < length c.args.list.now = grind (arith, nat_tests, c.is_empty.ensures, c.if-is_empty.false) in
     let live = (rw c.transaction-tx.ensures.begun at c.in-Ok.ensures.live) late some in
     let it = (rw c.transaction-tx.ensures.begun at c.in-Ok.ensures.tries) late b (shows_begun old b first keeps) same in
     subst (λ x. HasFailed old (state g.S.Store x) ⊎ ((b2 : ActState) × LeadTo c.args.list.now b b2 × WasUndone g.S.Store (state g.S.Store x) (tables_of b2))) same_end
@@ -177,7 +179,7 @@ returns-in-Err-commit-clause-numbered g c b keeps same numbers =
     let end = c.commit.new.self.0 in
     let same_end : end ≡ c.conn-2-1.given.0 = search rules in
     let quiet : Silent old last = silent_begin g.S.Store h last (subst (λ x. Silent (state g.S.Store x) last) c.transaction-tx.ensures.begun c.act_lines.ensures.silent) in
-    let some : 0 < length c.args.list.now = search rules in
+    let some : 0 < length c.args.list.now = grind (arith, nat_tests, c.is_empty.ensures, c.if-is_empty.false) in
     subst (λ x. KeepsNumbers (state g.S.Store x)) same_end (λ clean trees may.
     let late : HasCleanDisk last = omega (arith, c.commit.ensures.survives.clean, clean) in
     let first : HasCleanDisk old = omega (arith, quiet.survives.clean, late) in
@@ -194,7 +196,7 @@ returns-in-Err-commit-clause-survives g c =
     let end = c.commit.new.self.0 in
     let same_end : end ≡ c.conn-2-1.given.0 = search rules in
     let quiet : Silent old last = silent_begin g.S.Store h last (subst (λ x. Silent (state g.S.Store x) last) c.transaction-tx.ensures.begun c.act_lines.ensures.silent) in
-    let some : 0 < length c.args.list.now = search rules in
+    let some : 0 < length c.args.list.now = grind (arith, nat_tests, c.is_empty.ensures, c.if-is_empty.false) in
     let commits = LeavesLast old c.args.book.now.state c.args.list.now in
     subst (λ x. Survives old (state g.S.Store x) commits) same_end
     (survives_then old last (state g.S.Store end) _ _ commits (λ _ db none. absurd none) (λ clean db is b keeps same.

@@ -1,8 +1,9 @@
-use Rattle.std.proofs.Common.{◌≡◌, ◌≤◌, ◌<◌, ◌∙◌, ◌+◌, length, IsTrue, refl, arith, sym}
+use Rattle.std.proofs.Common.{◌≡◌, ◌≤◌, ◌<◌, ◌∙◌, ◌+◌, length, Ok, Err, refl, subst, arith}
 use Rattle.sqlite.specs.Held.{state}
 use Rattle.sqlite.specs.State.{HasCleanDisk}
 use Rattle.ob_tables.proofs.Failing.{failed_after}
 use Rattle.ob_tables.proofs.Silence.{silent_same, silent_then}
+use Rattle.ob_store.specs.Whole.{Tries}
 use Rattle.ob_store.proofs.Within.{halts, left_none, shows_after, turn_first, turn_next, whole_after}
 use Rattle.ob_store.proofs.whole.act_lines.Goals as goal
 
@@ -27,7 +28,7 @@ lines-preserved g c =
     let low : c.lines.place < length c.args.list.now = omega (arith, c.lines-test.true) in (
       step.same_reference ∙ was.0,
       silent_then old mid new was.1 step.silent,
-      omega (arith, was.2, c.from.ensures),
+      omega (arith, was.2, c.from-added.ensures),
       c.in-Ok.ensures.inside,
       λ clean first.
           let early : HasCleanDisk mid = omega (arith, step.silent.survives.clean, clean) in
@@ -36,7 +37,8 @@ lines-preserved g c =
           let early : HasCleanDisk mid = omega (arith, step.silent.survives.clean, clean) in
           let turn = was.5 early b shows same in
           let now = shows_after old mid b turn.book was.1 early turn.leads shows (was.3 early) turn.reached turn.valid in
-          turn_next old mid new c.lines.book.state c.act_line.new.book.state b c.args.list.now c.lines.place c.lines.added _ c.in-Ok.is_new turn low (c.in-Ok.ensures.tries clean turn.book now turn.memory),
+          turn_next old mid new c.lines.book.state c.act_line.new.book.state b c.args.list.now c.lines.place c.lines.added c.index-list-place.result c.in-Ok.is_new turn low
+          (subst (λ x. Tries mid new c.act_line.new.book.state turn.book x (Ok c.in-Ok.is_new)) c.index-list-place.is (c.in-Ok.ensures.tries clean turn.book now turn.memory)),
     )
 
 pub returns-in-Err-clause-same_reference : goal.returns-in-Err-clause-same_reference
@@ -56,7 +58,8 @@ returns-in-Err-clause-tries g c clean b shows same =
     let early : HasCleanDisk mid = omega (arith, c.act_line.ensures.silent.survives.clean, clean) in
     let turn = was.5 early b shows same in
     let now = shows_after old mid b turn.book was.1 early turn.leads shows (was.3 early) turn.reached turn.valid in
-    halts mid new c.act_line.new.book.state b turn.book c.args.list.now c.lines.place _ c.in-Err.stop low turn.left (c.in-Err.ensures.tries clean turn.book now turn.memory)
+    halts mid new c.act_line.new.book.state b turn.book c.args.list.now c.lines.place c.index-list-place.result c.in-Err.stop low turn.left
+    (subst (λ x. Tries mid new c.act_line.new.book.state turn.book x (Err c.in-Err.stop)) c.index-list-place.is (c.in-Err.ensures.tries clean turn.book now turn.memory))
 
 pub returns-in-Err-clause-cause : goal.returns-in-Err-clause-cause
 returns-in-Err-clause-cause g c clean b shows whole same store =

@@ -1,4 +1,4 @@
-use Rattle.std.proofs.Common.{◌≡◌, ◌≢◌, Ok, Err, IsTrue, inl, inr, sym, ap, ◌∙◌, arith, refl}
+use Rattle.std.proofs.Common.{◌≡◌, ◌≢◌, Bool, Ok, Err, IsTrue, inl, inr, sym, ap, ◌∙◌, arith, refl}
 use Rattle.sqlite.specs.Held.{state}
 use Rattle.sqlite.specs.State.{HasCleanDisk}
 use Rattle.ob_command.specs.Commands.{body_text}
@@ -80,9 +80,9 @@ returns-in-Ok-Same-clause-tries g c clean b shows same =
     let looks = c.in-Ok-Same.ensures.looks in
     let live = looks.live clean in
     let rows = rw (c.bytes.ensures.value, c.deref.ensures.value, c.in-Ok.ensures.text, c.in-Ok-Same.field-0-is) at (c.in-Ok-Same.ensures.found clean (shows.schema live) (tables_of b) (shows.holds live)) in
-    let it = is_known r b c.in-Ok-Same.field-0 (body_text command) rows in
-    known old new c.args.book.now.state b (under r command) (reply_of b c.in-Ok-Same.field-0) shows (stays b r command c.in-Ok-Same.field-0 it.number)
-    (again b r command c.in-Ok-Same.field-0 it.number it.found it.there it.body_is) (leads_same old new b shows (looks.stays clean)) same
+    let it = is_known r b c.in-Ok-Same._no (body_text command) rows in
+    known old new c.args.book.now.state b (under r command) (reply_of b c.in-Ok-Same._no) shows (stays b r command c.in-Ok-Same._no it.number)
+    (again b r command c.in-Ok-Same._no it.number it.found it.there it.body_is) (leads_same old new b shows (looks.stays clean)) same
 
 pub returns-in-Ok-Other-clause-silent : goal.returns-in-Ok-Other-clause-silent
 returns-in-Ok-Other-clause-silent g c = c.in-Ok-Other.ensures.looks.silent c.requires.inside
@@ -104,5 +104,5 @@ pub returns-clause-cause : goal.returns-clause-cause
 returns-clause-cause g c clean b shows whole same =
     let one = of_one c.args.reference.now c.reaching_law.ensures.accepted c.naming_law.ensures.few b shows.reached in
     let rows = rw (sym c.bytes.ensures.value) at one in
-    by_open (state g.S.Store c.args.tx.now.conn.now) (state g.S.Store c.look_up_within.new.tx.conn.now) (Err c.in-Err-look_up_within.stop)
+    by_open {X = Bool} (state g.S.Store c.args.tx.now.conn.now) (state g.S.Store c.look_up_within.new.tx.conn.now) (Err c.in-Err-look_up_within.stop)
     (λ live. c.in-Err-look_up_within.ensures.cause clean (shows.schema live) (tables_of b) (shows.holds live) rows)

@@ -1,4 +1,4 @@
-use Rattle.std.proofs.Common.{◌≡◌, Ok, Err, None, sym, ap, ap₂, subst, ◌∙◌}
+use Rattle.std.proofs.Common.{◌≡◌, Bool, Ok, Err, None, sym, ap, ap₂, subst, ◌∙◌}
 use Rattle.sqlite.specs.Held.{state}
 use Rattle.ob_post.specs.MoveLaws.{AreSmall}
 use Rattle.ob_state.specs.Amounts.{amount}
@@ -66,6 +66,6 @@ returns-in-Err-write_act-clause-cause g c clean b shows whole same fresh =
     let records : Records b a p c.act_of-act.result = rw (c.bytes.ensures.value, plan_is) at (c.act_of-act.ensures.records b shows.reached (sym at) p c.postings.ensures.posted) in
     let old = state g.S.Store c.args.tx.now.conn.now in
     let new = state g.S.Store c.write_act.new.tx.conn.now in
-    by_open old new (Err c.in-Err-write_act.stop)
+    by_open {X = Bool} old new (Err c.in-Err-write_act.stop)
     (λ live store. c.in-Err-write_act.ensures.cause clean store shows.inside
     (lets_in old new c.decide.new.self.state b a p c.act_of-act.result c.reached_law.ensures.goes_on shows records fresh free (c.bytes.ensures.identifier, c.requires.valid) live whole))
