@@ -1,5 +1,5 @@
 //! Applies a list of commands in one transaction: all of them, or none.
-ghost use Rattle.std.specs.Prelude.{◌≡◌, ◌≤◌, ◌<◌, false, None, length, Ok, IsTrue, IfErr, IfOk, OnOk};
+ghost use Rattle.std.specs.Prelude.{◌≡◌, ◌≤◌, ◌<◌, if◌then◌else◌, false, None, length, Ok, IsTrue, IfErr, IfOk, OnOk};
 ghost use Rattle.sqlite.specs.Held.{state};
 ghost use Rattle.sqlite.specs.State.{HasCleanDisk, Survives};
 ghost use Rattle.ob_book.specs.Acts.{ActState, number_of};
@@ -142,6 +142,14 @@ fn act_line<S: Alter, T: Timeline>(
     }
 }
 
+/// How many commands a line added, by whether its command was new.
+fn count_of(is_new: bool) -> usize
+    ensures value { result ≡ (if is_new then 1 else 0) }
+    ensures few { result ≤ 1 }
+{
+    if is_new { 1 } else { 0 }
+}
+
 /// Applies the lines of a list inside a transaction, up to the first that is refused, and returns
 /// how many of their commands were new to the book. Commits nothing.
 fn act_lines<S: Alter, T: Timeline, P: Progress>(
@@ -172,7 +180,7 @@ fn act_lines<S: Alter, T: Timeline, P: Progress>(
     'lines: for place in 0..list.len() {
         match act_line(alloc, tx, book, &list[place]) {
             Ok(is_new) => {
-                added += usize::from(is_new);
+                added += count_of(is_new);
                 progress.step(u32::try_from(place + 1).unwrap_or(u32::MAX));
             }
             Err(stop) => return Err(Halted { place, stop }),

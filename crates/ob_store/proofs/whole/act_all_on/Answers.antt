@@ -1,4 +1,4 @@
-use Rattle.std.proofs.Common.{◌≡◌, ◌⊎◌, ◌<◌, length, inl, rules, sym, subst, arith}
+use Rattle.std.proofs.Common.{◌≡◌, ◌⊎◌, ◌<◌, length, Ok, inl, rules, sym, subst, arith}
 use Rattle.std.proofs.lemmas.Bool.Decides.{nat_tests}
 use Rattle.std.proofs.lemmas.List.{nil_from_length}
 use Rattle.sqlite.specs.Held.{state}
@@ -91,7 +91,7 @@ returns-in-Ok-commit-clause-acts g c clean b keeps same =
     let some : 0 < length c.args.list.now = grind (arith, nat_tests, c.is_empty.ensures, c.if-is_empty.false) in
     let live = (rw c.transaction-tx.ensures.begun at c.in-Ok.ensures.live) late some in
     let it = (rw c.transaction-tx.ensures.begun at c.in-Ok.ensures.tries) late b (shows_begun old b first keeps) same in
-    subst (λ x. ActsAll g.S.Store x c.act_lines.new.book.state b c.args.list.now _) same_end (
+    subst (λ x. ActsAll g.S.Store x c.act_lines.new.book.state b c.args.list.now (Ok c.in-Ok.added)) same_end (
       it.book,
       it.lead,
       it.count,

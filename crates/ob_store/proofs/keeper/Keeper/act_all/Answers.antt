@@ -1,4 +1,4 @@
-use Rattle.std.proofs.Common.{◌≡◌, Option, Some, Err, refl, sym, ap, subst, ◌∙◌}
+use Rattle.std.proofs.Common.{◌≡◌, Option, Some, None, Err, refl, sym, ap, subst, ◌∙◌}
 use Rattle.std.specs.Prelude.{⊤, IfSome}
 use Rattle.std.specs.Option.{option_map}
 use Rattle.sqlite.specs.Held.{Held, state}
@@ -71,11 +71,11 @@ returns-in-Ok-clause-commits g c =
     let k = c.args.self.now in
     let conn_is : c.self.inside.conn ≡ k.conn = ap (λ (x : KeeperValue g.row.S.Denot). x.conn) c.self.view_is in
     let book_is : option_map (λ (x : BookValue). x.state) c.self.inside.book ≡ k.book = ap (λ (x : KeeperValue g.row.S.Denot). x.book) c.self.view_is in
-    commits_of g.S.Store k c.self.inside.conn c.act_all_on.new.conn _ c.in-Some.book.state c.args.list.now conn_is (sym book_is ∙ ap (option_map (λ (x : BookValue). x.state)) c.in-Some.is) c.act_all_on.ensures.survives
+    commits_of g.S.Store k c.self.inside.conn c.act_all_on.new.conn (Some c.act_all_on.new.book.state) c.in-Some.book.state c.args.list.now conn_is (sym book_is ∙ ap (option_map (λ (x : BookValue). x.state)) c.in-Some.is) c.act_all_on.ensures.survives
 
 pub returns-in-Err-clause-commits : goal.returns-in-Err-clause-commits
 returns-in-Err-clause-commits g c =
     let k = c.args.self.now in
     let conn_is : c.self.inside.conn ≡ k.conn = ap (λ (x : KeeperValue g.row.S.Denot). x.conn) c.self.view_is in
     let book_is : option_map (λ (x : BookValue). x.state) c.self.inside.book ≡ k.book = ap (λ (x : KeeperValue g.row.S.Denot). x.book) c.self.view_is in
-    commits_of g.S.Store k c.self.inside.conn c.act_all_on.new.conn _ c.in-Some.book.state c.args.list.now conn_is (sym book_is ∙ ap (option_map (λ (x : BookValue). x.state)) c.in-Some.is) c.act_all_on.ensures.survives
+    commits_of g.S.Store k c.self.inside.conn c.act_all_on.new.conn None c.in-Some.book.state c.args.list.now conn_is (sym book_is ∙ ap (option_map (λ (x : BookValue). x.state)) c.in-Some.is) c.act_all_on.ensures.survives
