@@ -28,7 +28,7 @@ lines-preserved g c =
     let low : c.lines.place < length c.args.list.now = omega (arith, c.lines-test.true) in (
       step.same_reference ∙ was.0,
       silent_then old mid new was.1 step.silent,
-      (let e : c.lines.added + c.count_of.result ≤ c.lines.place + 1 = omega (arith, was.2, c.count_of.ensures.few) in e),
+      (let e : c.lines.added + c.count_of-added.result ≤ c.lines.place + 1 = omega (arith, was.2, c.count_of-added.ensures.few) in e),
       c.in-Ok.ensures.inside,
       λ clean first.
           let early : HasCleanDisk mid = omega (arith, step.silent.survives.clean, clean) in
@@ -37,7 +37,7 @@ lines-preserved g c =
           let early : HasCleanDisk mid = omega (arith, step.silent.survives.clean, clean) in
           let turn = was.5 early b shows same in
           let now = shows_after old mid b turn.book was.1 early turn.leads shows (was.3 early) turn.reached turn.valid in
-          subst (λ n. InTurn old new c.act_line.new.book.state b c.args.list.now (c.lines.place + 1) (c.lines.added + n)) (sym c.count_of.ensures.value)
+          subst (λ n. InTurn old new c.act_line.new.book.state b c.args.list.now (c.lines.place + 1) (c.lines.added + n)) (sym c.count_of-added.ensures.value)
           (turn_next old mid new c.lines.book.state c.act_line.new.book.state b c.args.list.now c.lines.place c.lines.added c.index-list-place.result c.in-Ok.is_new turn low
           (subst (λ x. Tries mid new c.act_line.new.book.state turn.book x (Ok c.in-Ok.is_new)) c.index-list-place.is (c.in-Ok.ensures.tries clean turn.book now turn.memory))),
     )
