@@ -1,6 +1,5 @@
 -- The rows of a text that were read as lines so far.
-use Rattle.std.proofs.Common.{◌≡◌, ◌≢◌, ◌≤◌, ◌∙◌, sym, ap, subst, refl, ℕ, ◌+◌, Bool, true, false, List, [], ◌∷◌, ◌++◌, length, Option, Some, None, Result, Ok, Err, nat_lt, arith, append_assoc, append-nil}
-use Rattle.std.specs.Prelude.{if◌then◌else◌}
+use Rattle.std.proofs.Common.{◌≡◌, ◌≢◌, ◌≤◌, ◌∙◌, sym, ap, subst, refl, ℕ, ◌+◌, Bool, true, false, List, [], ◌∷◌, ◌++◌, length, cond, Option, Some, None, Result, Ok, Err, nat_lt, arith, append_assoc, append-nil}
 use Rattle.std.specs.Result.{is_ok}
 use Rattle.ob_base.specs.declared.stop.Fault.{Fault}
 use Rattle.ob_base.specs.declared.stop.Fault.TheVariants as faults
@@ -85,7 +84,7 @@ pub line_read : (number : ℕ) (row : Fields) (line : Line) → nat_lt 1_000_000
 line_read number row line no is = rw no is
 
 -- ---- a header
-pub header_none : (left after : Option (List Fields)) (found : Bool) (row : Fields) (all : List Fields) → left ≡ Some all → TakesRow left after found row → (if found then is_header row else false) ≡ false → after_header all ≡ None
+pub header_none : (left after : Option (List Fields)) (found : Bool) (row : Fields) (all : List Fields) → left ≡ Some all → TakesRow left after found row → cond found (is_header row) false ≡ false → after_header all ≡ None
 header_none None after found row all is takes lacks = absurd (let e : ◌≡◌ {A = Option (List Fields)} None (Some all) = is in cc)
 header_none (Some l) None true row all is takes lacks = absurd takes
 header_none (Some l) (Some rest) true row all is takes lacks =

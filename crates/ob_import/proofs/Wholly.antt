@@ -231,3 +231,9 @@ header_of (Some rows) list lines = (rows, refl, lines)
 pub none_of : (body : Option (List Fields)) → AreLinesOf body None → body ≡ None
 none_of None lines = refl
 none_of (Some rows) lines = absurd lines
+
+pub memory_no_store : ◌≡◌ {A = Fault} faults.OutOfMemory faults.Store → ⊥
+memory_no_store e = cc
+
+pub input_no_store : ◌≡◌ {A = Fault} faults.Input faults.Store → ⊥
+input_no_store e = cc

@@ -119,8 +119,9 @@ fn read_body<R: Read>(
         }
         let line = line_of(number, &row);
         let goes_on = line.is_ok();
-        if lines.push(line).is_err() {
-            return Err(Fault::OutOfMemory);
+        match lines.push(line) {
+            Ok(()) => {}
+            Err(_) => return Err(Fault::OutOfMemory),
         }
         if !goes_on {
             return Ok(lines);
