@@ -1,5 +1,5 @@
 -- What any list of calls on a keeper comes to, with crashes and openings between them.
-use Rattle.std.specs.Prelude.{◌≡◌, ◌⊎◌, ⊤, ℕ, ◌<◌, ◌^◌, true, List, [], ◌++◌, length, Contains, Option, Some, None, Result, Ok, Err, IsErr}
+use Rattle.std.specs.Prelude.{◌≡◌, ◌⊎◌, ⊤, ℕ, ◌<◌, ◌^◌, true, List, [], ◌++◌, length, Contains, Option, Some, None, Result, Ok, Err, IsErr, IsSome}
 use Rattle.std.specs.List.{AllByRecursion}
 use Rattle.ob_base.specs.declared.stop.Stop.{Stop}
 use Rattle.ob_base.specs.declared.stop.Stop.TheVariants.{Refused, Fault}
@@ -14,7 +14,7 @@ use Rattle.ob_book.specs.Acts.{ActState, Referenced, is_same, start}
 use Rattle.ob_book.specs.Forecasts.{forecast_text_of}
 use Rattle.ob_import.specs.Imports.{Says}
 use Rattle.ob_import.specs.Reports.{AreRows}
-use Rattle.ob_store.specs.Calls.{HasCommandCause, OpensAfter}
+use Rattle.ob_store.specs.Calls.{ForgetsNoFault, HasCommandCause, HasWorkCause, OpensAfter}
 use Rattle.ob_store.specs.Keepers.{Ghosts, IsClean, KeeperValue, StoresNumbers, Ties}
 use Rattle.ob_requests.specs.Message.{Message}
 use Rattle.ob_lists.specs.Importing.{Ended, body_of, counted}
@@ -79,6 +79,14 @@ module _ {S : Type 0} (g : Ghosts S) where
   -- where the store is told to have failed on a command, that has its cause, over one of these books
   abbrev pub ActsForCause : {X : Type 0} → (ActState → Type 0) → KeeperValue S → KeeperValue S → Referenced → Result X Stop → Type 0
   ActsForCause Is old new a result = (x : ActState) × Is x × HasCommandCause g old new x a result
+
+  -- What is known of the store's faults after a call, which reports that the store failed or doesn't: none is forgotten; hidden row
+  -- numbers 1, 2, 3 and so on stay so, whichever book there is; and then such a report over a keeper's book has its cause.
+  pub record TellsOverList (old new : KeeperValue S) (failed : Type 0) : Type 0 where
+    pub forgets : ForgetsNoFault g old new
+    pub numbered : (b : ActState) (told : List Told) → Stands g (MayBe b told) old → StoresNumbers g old → StoresNumbers g new
+    pub cause : IsClean g new → (b : ActState) (told : List Told) → Stands g (MayBe b told) old → IsSome old.book → StoresNumbers g old → failed
+        → (x : ActState) × MayBe b told x × HasWorkCause g old new x
 
   -- a new book of the period that the texts name stands, with what was told since; and whatever a crash leaves has hidden row numbers
   -- 1, 2, 3 and so on

@@ -1,12 +1,13 @@
 //! The calls on the storage layer (`Keeper`), each as a part of a list of calls.
-ghost use Rattle.std.specs.Prelude.{[], ◌∷◌, List, Some, IfOk, IsErr, option_map};
+ghost use Rattle.std.specs.Prelude.{◌≡◌, [], ◌∷◌, List, Some, Err, IfOk, IsErr, option_map};
 ghost use Rattle.ob_stream.specs.Watching.{watched_bytes};
 ghost use Rattle.ob_csv.specs.Rows.{rows_of};
 ghost use Rattle.ob_book.specs.Acts.{ActState};
 ghost use Rattle.ob_store.specs.Acting.{under};
 ghost use Rattle.ob_store.specs.Keepers.{IsClean, StoresNumbers};
+ghost use Rattle.ob_import.specs.Reports.{IsStoreFault};
 ghost use Rattle.ob_lists.specs.Standing.{MayBe, Stands, Told, served, told_by, told_by_import, told_by_stream};
-ghost use Rattle.ob_lists.specs.Going.{ActsForCause, Goes, LoadsOne, PlansOne};
+ghost use Rattle.ob_lists.specs.Going.{ActsForCause, Goes, LoadsOne, PlansOne, TellsOverList};
 
 use ob_base::{Fault, Ref, Stop};
 use ob_command::Command;
@@ -116,14 +117,16 @@ pub fn create_again<S: Alter, T: Timeline>(
 }
 
 /// Imports the commands of a CSV text and reports how many rows it took, up to its end or to a
-/// fault.
+/// fault. If hidden row numbers run on they still do, and a store fault has a cause; this holds for
+/// the three calls below too.
 pub fn import_text<S: Alter, T: Timeline>(
     alloc: Global,
     text: &[u8],
     keeper: &mut Keeper<S, T>,
 ) -> Result<ImportReport, ImportFault>
-    ensures { Goes S.Store S.Store (told_by_import (Some (rows_of text.now)) result) keeper.old
+    ensures goes { Goes S.Store S.Store (told_by_import (Some (rows_of text.now)) result) keeper.old
         keeper.new }
+    ensures tells { TellsOverList S.Store keeper.old keeper.new (IsStoreFault result) }
 {
     ob_import::import_text(alloc, text, keeper)
 }
@@ -134,9 +137,10 @@ pub fn import<R: Read, S: Alter, T: Timeline>(
     reader: &mut Watched<R>,
     keeper: &mut Keeper<S, T>,
 ) -> Result<ImportReport, ImportFault>
-    ensures { Goes S.Store S.Store
+    ensures goes { Goes S.Store S.Store
         (told_by_import (option_map rows_of (watched_bytes R.remaining reader.old)) result)
         keeper.old keeper.new }
+    ensures tells { TellsOverList S.Store keeper.old keeper.new (IsStoreFault result) }
 {
     ob_import::import(alloc, reader, keeper)
 }
@@ -148,9 +152,10 @@ pub fn serve_stream<R: Read, W: Write, S: Alter, T: Timeline>(
     writer: &mut Watched<W>,
     keeper: &mut Keeper<S, T>,
 ) -> Result<Served, Fault>
-    ensures { Goes S.Store S.Store
+    ensures goes { Goes S.Store S.Store
         (told_by_stream (watched_bytes R.remaining reader.old) (watched_bytes W.contents writer.old)
         (watched_bytes W.contents writer.new) result) keeper.old keeper.new }
+    ensures tells { TellsOverList S.Store keeper.old keeper.new (result ≡ Err Fault.Store) }
 {
     answers_law();
     ob_desk::serve_stream(alloc, reader, writer, keeper)
@@ -164,7 +169,8 @@ pub fn run_serve<S: Alter, T: Timeline, L: FaultLog>(
     keeper: &mut Keeper<S, T>,
     log: &mut L,
 ) -> Result<(), Unserved>
-    ensures { Goes S.Store S.Store (served ∷ []) keeper.old keeper.new }
+    ensures goes { Goes S.Store S.Store (served ∷ []) keeper.old keeper.new }
+    ensures tells { TellsOverList S.Store keeper.old keeper.new (result ≡ Err Unserved.Store) }
 {
     ob_desk::run_serve(alloc, listener, keeper, log)
 }

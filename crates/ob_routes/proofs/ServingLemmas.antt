@@ -10,10 +10,11 @@ use Rattle.ob_state.specs.State.{BookState}
 use Rattle.ob_tables.specs.Steps.{IsStoreFault}
 use Rattle.ob_book.specs.Acts.{ActState, Referenced, Reply}
 use Rattle.ob_store.specs.Acting.{Acted, IsActStop, reply_as}
-use Rattle.ob_store.specs.Calls.{IfHeld, WasClean}
+use Rattle.ob_store.specs.Calls.{IfHeld, TellsFaults, WasClean}
 use Rattle.ob_store.specs.Keepers.{Ghosts, KeeperValue, Ties}
 use Rattle.ob_store.specs.Replying.{Replied}
 use Rattle.ob_store.specs.declared.reply.Reply.{Reply as GivenReply}
+use Rattle.ob_store.proofs.Faults.{tells_as, tells_nothing}
 use Rattle.ob_csv.specs.Rows.{rows_of}
 use Rattle.ob_import.specs.Reports.{HasCause, Imported, IsStoreFault as IsImportStoreFault}
 use Rattle.ob_import.specs.declared.report.ImportFault.{ImportFault}
@@ -91,6 +92,13 @@ makes_faults : (a : Answer) (closes : Bool) (result : Result ReplyText Fault) �
 makes_faults a closes (Ok text) made = tt
 makes_faults a closes (Err fault) made = rw made tt
 
+-- nor is another fault
+memory_is_no_loss : ◌≡◌ {A = Result ReplyText Fault} (Err OutOfMemory) (Err Store) → ⊥
+memory_is_no_loss e = let same = same_answer_fault OutOfMemory Store e in cc
+
+reopen_is_no_loss : ◌≡◌ {A = Result ReplyText Fault} (Err Reopen) (Err Store) → ⊥
+reopen_is_no_loss e = let same = same_answer_fault Reopen Store e in cc
+
 neither : {P Q : Type 0} → (P → ⊥) → (Q → ⊥) → P ↔ Q
 neither p q = ((λ h. absurd (p h)), (λ h. absurd (q h)))
 
@@ -105,6 +113,7 @@ module _ {S : Type 0} (g : Ghosts S) where
     dropped = h.dropped;
     clean = h.clean;
     answered = λ clean b ties is. grants b (h.answered clean b ties is);
+    tells = h.tells;
   }
 
   -- an answer that needs no book
@@ -117,6 +126,7 @@ module _ {S : Type 0} (g : Ghosts S) where
     dropped = λ there. neither (λ none. none_there k.book none there) (λ e. ok_is_no_err text Store e);
     clean = λ clean. clean;
     answered = λ clean b ties there. due b ties;
+    tells = tells_nothing g k k _ refl (ok_is_no_err text Store);
   }
 
   -- there is no book
@@ -128,6 +138,7 @@ module _ {S : Type 0} (g : Ghosts S) where
     dropped = λ there. absurd (none_there k.book none there);
     clean = λ clean. clean;
     answered = λ clean b ties there. absurd (none_there k.book none there);
+    tells = tells_nothing g k k _ refl reopen_is_no_loss;
   }
 
   -- a reply is made over a book, or not, and nothing changes
@@ -140,6 +151,7 @@ module _ {S : Type 0} (g : Ghosts S) where
     dropped = λ _. neither (λ none. none_there k.book none there) (makes_no_store_fault a closes result made);
     clean = λ clean. clean;
     answered = λ clean b ties _. due b ties;
+    tells = tells_nothing g k k _ refl (makes_no_store_fault a closes result made);
   }
 
   -- memory is refused over a book, and nothing changes
@@ -152,6 +164,7 @@ module _ {S : Type 0} (g : Ghosts S) where
     dropped = λ _. neither (λ none. none_there k.book none there) (λ e. cc);
     clean = λ clean. clean;
     answered = λ clean b ties _. due b ties;
+    tells = tells_nothing g k k _ refl memory_is_no_loss;
   }
 
   -- ---- a view of the book
@@ -192,10 +205,11 @@ module _ {S : Type 0} (g : Ghosts S) where
       → (IsSome old.book → IfErr replied IsStoreFault)
       → (IsSome old.book → (new.book ≡ None) ↔ (replied ≡ Err (stops.Fault Store)))
       → WasClean g old new
+      → TellsFaults g old new (replied ≡ Err (stops.Fault Store))
       → IfHeld g old new (λ b. Replied g old new b number replied)
       → GoesOnFound replied closes result
       → Serves g old new (λ b. Gives g new b (got b (routes.Command number)) closes result) None closes result
-  serves_found old new number (Ok given) closes result reopen unopened faults dropped clean made goes =
+  serves_found old new number (Ok given) closes result reopen unopened faults dropped clean tells made goes =
       let answer_of = found types.Json (option_map reply_body (option_map reply_as given)) in
       record {
         constant = tt;
@@ -207,16 +221,18 @@ module _ {S : Type 0} (g : Ghosts S) where
             let h = made is b ties there in
             gives_made g new b (got b (routes.Command number)) closes result
             (subst (λ (r : Option Reply). Makes (found types.Json (option_map reply_body r)) closes result) h.0 goes) h.1);
+        tells = tells_as g old new _ (result ≡ Err Store) (λ e. absurd (makes_no_store_fault answer_of closes result goes e)) tells;
       }
-  serves_found old new number (Err (stops.Refused refusal)) closes result reopen unopened faults dropped clean made goes = record {
+  serves_found old new number (Err (stops.Refused refusal)) closes result reopen unopened faults dropped clean tells made goes = record {
     constant = tt;
     unopened = λ none. absurd (refused_is_no_loss refusal Reopen (reopen.0 none));
     faults = λ there. absurd (refused_is_no_fault refusal (faults there));
     dropped = λ there. absurd (refused_is_no_fault refusal (faults there));
     clean = clean;
     answered = λ is b ties there. absurd (made is b ties there);
+    tells = tells_as g old new _ (result ≡ Err Store) (λ e. absurd (memory_is_no_loss (sym goes ∙ e))) tells;
   }
-  serves_found old new number (Err (stops.Fault fault)) closes result reopen unopened faults dropped clean made goes = record {
+  serves_found old new number (Err (stops.Fault fault)) closes result reopen unopened faults dropped clean tells made goes = record {
     constant = tt;
     unopened = λ none. (unopened none, goes ∙ ap Err (same_fault fault Reopen (reopen.0 none)));
     faults = λ there. rw goes (store_fault_answers fault (faults there));
@@ -226,6 +242,7 @@ module _ {S : Type 0} (g : Ghosts S) where
     );
     clean = clean;
     answered = λ is b ties there. rw goes (replied_gives old new b number (got b (routes.Command number)) fault closes (made is b ties there));
+    tells = tells_as g old new _ (result ≡ Err Store) (λ e. ap (λ (f : Fault). Err (stops.Fault f)) (same_answer_fault fault Store (sym goes ∙ e))) tells;
   }
 
   -- ---- a command
@@ -249,26 +266,29 @@ module _ {S : Type 0} (g : Ghosts S) where
       → (IsSome old.book → IfErr acted IsActStop)
       → (IsSome old.book → (new.book ≡ None) ↔ (acted ≡ Err (stops.Fault Store)))
       → WasClean g old new
+      → TellsFaults g old new (acted ≡ Err (stops.Fault Store))
       → IfHeld g old new (λ b. Acted g old new b x acted)
       → GoesOnActed acted closes result
       → Serves g old new (λ b. ActGives g new b x closes result) None closes result
-  serves_acted old new x (Ok given) closes result is faults dropped clean made goes = record {
+  serves_acted old new x (Ok given) closes result is faults dropped clean tells made goes = record {
     constant = tt;
     unopened = λ none. absurd (none_there old.book none is);
     faults = λ _. makes_faults (outcome (Ok (reply_as given))) closes result goes;
     dropped = λ there. neither (λ none. ok_is_no_err given (stops.Fault Store) ((dropped there).0 none)) (makes_no_store_fault (outcome (Ok (reply_as given))) closes result goes);
     clean = clean;
     answered = λ cl b ties there. (let h = made cl b ties there in gives_accepted g new b x (reply_as given) closes result h.0 goes h.1);
+    tells = tells_as g old new _ (result ≡ Err Store) (λ e. absurd (makes_no_store_fault (outcome (Ok (reply_as given))) closes result goes e)) tells;
   }
-  serves_acted old new x (Err (stops.Refused refusal)) closes result is faults dropped clean made goes = record {
+  serves_acted old new x (Err (stops.Refused refusal)) closes result is faults dropped clean tells made goes = record {
     constant = tt;
     unopened = λ none. absurd (none_there old.book none is);
     faults = λ _. makes_faults (refused refusal) closes result goes;
     dropped = λ there. neither (λ none. refused_is_no_loss refusal Store ((dropped there).0 none)) (makes_no_store_fault (refused refusal) closes result goes);
     clean = clean;
     answered = λ cl b ties there. (let h = made cl b ties there in gives_refused g new b x refusal closes result h.0 goes h.1);
+    tells = tells_as g old new _ (result ≡ Err Store) (λ e. absurd (makes_no_store_fault (refused refusal) closes result goes e)) tells;
   }
-  serves_acted old new x (Err (stops.Fault fault)) closes result is faults dropped clean made goes = record {
+  serves_acted old new x (Err (stops.Fault fault)) closes result is faults dropped clean tells made goes = record {
     constant = tt;
     unopened = λ none. absurd (none_there old.book none is);
     faults = λ there. rw goes (act_fault_answers fault (faults there));
@@ -278,6 +298,7 @@ module _ {S : Type 0} (g : Ghosts S) where
     );
     clean = clean;
     answered = λ cl b ties there. rw goes (acted_gives old new b x fault closes (made cl b ties there));
+    tells = tells_as g old new _ (result ≡ Err Store) (λ e. ap (λ (f : Fault). Err (stops.Fault f)) (same_answer_fault fault Store (sym goes ∙ e))) tells;
   }
 
   -- ---- a plan
@@ -314,16 +335,18 @@ module _ {S : Type 0} (g : Ghosts S) where
       → IsSome old.book
       → (IsSome old.book → (new.book ≡ None) ↔ IsImportStoreFault (Ok report))
       → WasClean g old new
+      → TellsFaults g old new ⊥
       → IfHeld g old new (λ b. Imported g new b (Some (rows_of body)) (Ok report))
       → Makes (report_answer report.added report.again report.stopped) closes result
       → Serves g old new (λ b. RouteAnswered g new b methods.Post (Some routes.Import) body closes result) None closes result
-  serves_report old new body report closes result is dropped clean made goes = record {
+  serves_report old new body report closes result is dropped clean tells made goes = record {
     constant = tt;
     unopened = λ none. absurd (none_there old.book none is);
     faults = λ _. makes_faults (report_answer report.added report.again report.stopped) closes result goes;
     dropped = λ there. neither (λ none. (dropped there).0 none) (makes_no_store_fault (report_answer report.added report.again report.stopped) closes result goes);
     clean = clean;
     answered = λ cl b ties there. answered_report g new b body report closes result (made cl b ties there) goes;
+    tells = tells_as g old new ⊥ (result ≡ Err Store) (makes_no_store_fault (report_answer report.added report.again report.stopped) closes result goes) tells;
   }
 
   pub serves_stopped : (old new : KeeperValue S) (body : List ℕ) (e : ImportFault) (closes : Bool)
@@ -331,9 +354,10 @@ module _ {S : Type 0} (g : Ghosts S) where
       → (IsSome old.book → (new.book ≡ None) ↔ IsImportStoreFault (Err e))
       → (IsSome old.book → IfErr {T = ImportReport} (Err e) (λ f. HasCause f.fault ⊥))
       → WasClean g old new
+      → TellsFaults g old new (e.fault ≡ Store)
       → IfHeld g old new (λ b. Imported g new b (Some (rows_of body)) (Err e))
       → Serves g old new (λ b. RouteAnswered g new b methods.Post (Some routes.Import) body closes (Err e.fault)) None closes (Err e.fault)
-  serves_stopped old new body e closes is dropped cause clean made = record {
+  serves_stopped old new body e closes is dropped cause clean tells made = record {
     constant = tt;
     unopened = λ none. absurd (none_there old.book none is);
     faults = λ there. import_fault_answers e.fault (cause there);
@@ -342,4 +366,5 @@ module _ {S : Type 0} (g : Ghosts S) where
     answered = λ cl b ties there. (
         let h = made cl b ties there in
         answered_stop g new b body e.fault e.added e.again closes (cause there) h.0 h.1 h.2);
+    tells = tells_as g old new (e.fault ≡ Store) (◌≡◌ {A = Result ReplyText Fault} (Err e.fault) (Err Store)) (same_answer_fault e.fault Store) tells;
   }

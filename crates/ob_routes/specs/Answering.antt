@@ -3,7 +3,7 @@ use Rattle.std.specs.Prelude.{◌≡◌, ◌↔◌, ◌⊎◌, ℕ, ⊤, Bool, L
 use Rattle.ob_base.specs.declared.stop.Fault.{Fault}
 use Rattle.ob_base.specs.declared.stop.Fault.TheVariants.{OutOfMemory, Store, Reopen}
 use Rattle.ob_book.specs.Acts.{ActState, Referenced, act, answer}
-use Rattle.ob_store.specs.Calls.{IfHeld, WasClean}
+use Rattle.ob_store.specs.Calls.{IfHeld, TellsFaults, WasClean}
 use Rattle.ob_store.specs.Keepers.{Ghosts, KeeperValue, Stores, StoresEither, Ties}
 use Rattle.ob_csv.specs.Rows.{Fields, rows_of}
 use Rattle.ob_import.specs.Imports.{Import, Imports, after_header}
@@ -110,3 +110,4 @@ module _ {S : Type 0} (g : Ghosts S) where
     pub dropped : IsSome old.book → (new.book ≡ None) ↔ (result ≡ Err Store)
     pub clean : WasClean g old new
     pub answered : IfHeld g old new owed
+    pub tells : TellsFaults g old new (result ≡ Err Store)

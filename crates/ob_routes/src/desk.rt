@@ -1,6 +1,6 @@
 //! Answers one request.
 ghost use Rattle.std.specs.Prelude.{◌≡◌, ◌↔◌, Some, None, Err, IsSome, IfSome, IfErr};
-ghost use Rattle.ob_store.specs.Calls.{IfHeld, WasClean};
+ghost use Rattle.ob_store.specs.Calls.{IfHeld, TellsFaults, WasClean};
 ghost use Rattle.ob_requests.specs.Reading.{message_of};
 ghost use Rattle.ob_routes.specs.Answers.{AsksPlan, bookless, bookless_at, got};
 ghost use Rattle.ob_routes.specs.Answering.{Answered, Gives, IsAnswerFault, IsReplyOf, RouteAnswered, Serves, Unopened};
@@ -44,6 +44,9 @@ pub fn answer<S: Alter, T: Timeline>(
     ensures answered { IfHeld S.Store keeper.old keeper.new
         (λ b. Answered S.Store keeper.new b (message_of request.now) closes result) }
     ensures plan { AsksPlan (message_of request.now) → keeper.new ≡ keeper.old }
+    // no fault of the store is forgotten, row numbers and the step limit stay, and a store fault has
+    // a cause
+    ensures tells { TellsFaults S.Store keeper.old keeper.new (result ≡ Err Fault.Store) }
 {
     let route = routes.route_of(request.path());
     answer_route(alloc, keeper, request.method, route, &request.body, closes)

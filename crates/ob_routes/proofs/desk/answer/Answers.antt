@@ -11,5 +11,6 @@ returns g c =
       dropped = served.dropped;
       clean = served.clean;
       answered = served.answered;
+      tells = served.tells;
       plan = λ asks. answered.plan asks.0 asks.1;
     }

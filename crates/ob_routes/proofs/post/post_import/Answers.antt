@@ -12,10 +12,10 @@ pub returns-in-Ok : goal.returns-in-Ok
 returns-in-Ok g c =
     let there : IsSome c.args.keeper.now.book = search rules in
     let e = c.in-Ok.ensures in
-    serves_report g.S.Store c.args.keeper.now c.import_text.new.keeper c.args.body.now c.in-Ok.report c.args.closes c.report_reply.result there e.dropped e.clean e.imported c.report_reply.ensures
+    serves_report g.S.Store c.args.keeper.now c.import_text.new.keeper c.args.body.now c.in-Ok.report c.args.closes c.report_reply.result there e.dropped e.clean e.tells e.imported c.report_reply.ensures
 
 pub returns-in-Err : goal.returns-in-Err
 returns-in-Err g c =
     let there : IsSome c.args.keeper.now.book = search rules in
     let e = c.in-Err.ensures in
-    serves_stopped g.S.Store c.args.keeper.now c.import_text.new.keeper c.args.body.now c.in-Err.stopped c.args.closes there e.dropped e.cause e.clean e.imported
+    serves_stopped g.S.Store c.args.keeper.now c.import_text.new.keeper c.args.body.now c.in-Err.stopped c.args.closes there e.dropped e.cause e.clean e.tells e.imported
