@@ -39,14 +39,15 @@ def books() -> list[Path]:
 
 @lru_cache(maxsize=None)
 def slow_program() -> Path:
-    """A program that takes a second for the table of a book, and writes down that it began."""
+    """A program that takes a second for the table of a book, and writes down that it began; it does all else as the stand-in."""
     where = many_books.folder() / "slow"
     where.mkdir()
     for book in books():
         shutil.copy(table_of(book), where / hashlib.sha256(book.read_bytes()).hexdigest())
     program = where / "outagebook"
     program.write_text(
-        f'#!/bin/sh\necho begun >> {where}/begun\nsleep 1\nexec cat "{where}/$(sha256sum "$3" | cut -c 1-64)"\n'
+        f'#!/bin/sh\n[ "$1" = table ] || exec "{shutil.which("outagebook")}" "$@"\n'
+        f'echo begun >> {where}/begun\nsleep 1\nexec cat "{where}/$(sha256sum "$3" | cut -c 1-64)"\n'
     )
     program.chmod(0o755)
     return program
@@ -211,21 +212,21 @@ class OnAWorker(unittest.TestCase):
     """What a worker does with a book, without a cluster."""
 
     def asked(self, is_sent: bool) -> Asked:
-        return asked_for(str(books()[0]), str(table_of(books()[0])), "", is_sent)
+        return asked_for(str(books()[0]), str(table_of(books()[0])), "outagebook", is_sent)
 
     def test_a_book_that_lies_there(self) -> None:
         kind, district, text = work_here(partial(told, read_district), self.asked(False))
         self.assertEqual((kind, text), ("", ""))
-        self.assertEqual(district, read_district(str(books()[0]), str(table_of(books()[0])), ""))
+        self.assertEqual(district, read_district(str(books()[0]), str(table_of(books()[0])), "outagebook"))
 
     def test_another_book_at_its_path_isnt_taken(self) -> None:
         asked, elsewhere = self.asked(True), many_books.folder() / "elsewhere" / "d0.db"
         elsewhere.parent.mkdir()
         shutil.copy(books()[1], elsewhere)
         for path in (elsewhere, elsewhere.with_name("nowhere") / "d0.db"):
-            there = Asked(str(path), asked.digest, asked.table, "", asked.tools)
+            there = Asked(str(path), asked.digest, asked.table, "outagebook", asked.tools)
             self.assertEqual(work_here(partial(told, read_district), there)[0], ABSENT)
-            sent = Asked(str(path), asked.digest, asked.table, "", asked.tools, asked.files)
+            sent = Asked(str(path), asked.digest, asked.table, "outagebook", asked.tools, asked.files)
             self.assertEqual(
                 work_here(partial(told, read_district), sent), work_here(partial(told, read_district), asked)
             )
