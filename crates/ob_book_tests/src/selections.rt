@@ -3,7 +3,7 @@
 use crate::fortnight::{FORTNIGHT, TWO_WEEKS};
 use crate::rows::book_of;
 use ob_book::Book;
-use ob_selections::{By, Selection, figures_of, indices_text};
+use ob_selections::{By, indices_text};
 use ob_sweep::Windowed;
 use std::alloc::Global;
 use std::process::Abort;
@@ -82,23 +82,5 @@ fn causes_and_sections_of_the_fortnight(rt: HostRuntime) -> Result<(), Fail> {
     has(&rt, causes.as_str(), PLANNED);
     let sections = listed(rt.alloc(), &book, By::Section, 3600)?;
     has(&rt, sections.as_str(), QUARRY);
-    Ok(())
-}
-
-#[test]
-fn a_selection_of_one_day(rt: HostRuntime) -> Result<(), Fail> {
-    let book = book_of(rt.alloc(), TWO_WEEKS, &[FORTNIGHT])?;
-    let day = Selection {
-        feeder: None,
-        section: None,
-        cause: None,
-        first: 3,
-        end: 4,
-        which: ob_index::Which::All,
-        longest: 300,
-    };
-    let figures = figures_of(&book, &day);
-    assert!(rt; figures.counts.ci == 18 && figures.counts.csi == 81_390);
-    assert!(rt; figures.length == 86_400);
     Ok(())
 }
