@@ -273,8 +273,8 @@ class InBrowser(unittest.TestCase):
                 self.assertEqual(len(found["pictures"]), 3)
                 self.assertLessEqual(max(found["pictures"]), width)
                 self.assertGreaterEqual(min(found["letters"]), 11)
-                self.assertEqual((found["wrapped"], found["fractions"]), (0, 70))
-                self.assertEqual(len(found["meanings"]), 37)
+                self.assertEqual((found["wrapped"], found["fractions"]), (0, 72))
+                self.assertEqual(len(found["meanings"]), 38)
                 self.assertNotIn("Worst served customers", found["scrolling"])
                 if width >= 1280:
                     self.assertEqual(found["scrolling"], [])

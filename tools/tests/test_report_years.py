@@ -1,7 +1,7 @@
 """The page of a period with what comes from beside its book: the years before, a cover, the zone in words, and its print."""
 
 import os
-import stat
+import shutil
 import subprocess
 import sys
 import unittest
@@ -127,9 +127,8 @@ class Years(unittest.TestCase):
 
     def test_an_earlier_book_is_earlier(self) -> None:
         made = support.fortnight()
-        program = fake_program(made)
         with self.assertRaisesRegex(BookError, "its period ends on 2025-04-06, not before 2025-03-24"):
-            read_earlier(str(made.book), support.opened(made), [str(made.book)], program)
+            read_earlier(str(made.book), support.opened(made), [str(made.book)], "outagebook")
 
     def test_changes(self) -> None:
         self.assertEqual(change(Fraction(3), Fraction(2)), "+50.0 %")
@@ -138,14 +137,6 @@ class Years(unittest.TestCase):
         self.assertEqual([change(None, Fraction(2)), change(Fraction(2), None)], ["\u2013", "\u2013"])
         self.assertEqual(change(Fraction(2), Fraction(0)), "\u2013")
         self.assertEqual([clock(29), clock(30), clock(3_599), clock(360_000)], ["0:00", "0:01", "1:00", "100:00"])
-
-
-def fake_program(made: support.Made) -> str:
-    """A program that prints the annual table of a made book, whichever book it is asked for."""
-    path = support.folder() / "fake-program"
-    path.write_text(f"#!{sys.executable}\nprint(open({str(made.table)!r}).read(), end='')\n")
-    path.chmod(path.stat().st_mode | stat.S_IXUSR)
-    return str(path)
 
 
 FACTS = """utility: Mill & Hill
@@ -235,6 +226,7 @@ class Print(unittest.TestCase):
     def test_a_browser_that_is_not_there_is_said_by_its_package(self) -> None:
         made, out = support.fortnight(), support.folder() / "none.pdf"
         words = [sys.executable, str(support.TOOLS / "report.py"), str(made.book), "--table", str(made.table)]
+        words += ["--program", str(shutil.which("outagebook"))]
         environment = {**os.environ, "PATH": str(support.folder() / "nowhere")}
         done = subprocess.run([*words, "--pdf", str(out)], capture_output=True, text=True, check=False, env=environment)
         self.assertEqual((done.returncode, out.exists()), (1, False))
