@@ -1,5 +1,5 @@
 -- Selections: which interruptions count, over which customers and days.
-use Rattle.std.specs.Prelude.{◌≤◌, ◌<◌, ℕ, ◌-◌, ◌==◌, ◌&&◌, Bool, true, false, not, nat_le, nat_lt, List, [], Option, None, length, map, if◌then◌else◌}
+use Rattle.std.specs.Prelude.{◌≤◌, ◌<◌, ℕ, ◌==◌, ◌&&◌, Bool, true, false, not, nat_le, nat_lt, List, [], Option, None, length, map, if◌then◌else◌}
 use Rattle.std.specs.List.{filter, sum_by, count_by, range_with_len}
 use Rattle.std.specs.Option.{option_map_or}
 use Rattle.ob_base.specs.Seconds.{seconds}
