@@ -5,22 +5,39 @@ from dataclasses import dataclass
 from html import escape
 
 MOST_WIDTH = 40  # of a column
+LETTER, GAP = 8, 12  # of labels below an axis: the width of a letter at most, and what is free between two
 
 
 @dataclass(frozen=True)
 class Bar:
-    """A bar: what it stands for, its length, the words of its title, and whether it is set apart."""
+    """A bar: what it stands for, its length, the words of its title, and whether it is set apart; `more` is what is put on
+    top of a column, set apart from it, and `says` stands above it."""
 
     label: str
     value: float
     title: str
     is_apart: bool = False
+    more: float = 0.0
+    says: str = ""
+
+    @property
+    def whole(self) -> float:
+        return self.value + self.more
+
+
+@dataclass(frozen=True)
+class Tick:
+    """A label at a place of the lower axis: `place` columns from its beginning. One with a line parts the picture there."""
+
+    place: float
+    label: str
+    has_line: bool = False
 
 
 @dataclass(frozen=True)
 class Size:
-    """How large a picture of columns is drawn, what is left free around them, how many of them can be labelled, and
-    whether each has a title to be pointed at."""
+    """How large a picture of columns is drawn, what is left free around them, and whether each has a title to be pointed
+    at."""
 
     width: int
     height: int
@@ -28,7 +45,6 @@ class Size:
     right: int
     top: int
     bottom: int
-    most_labels: int
     has_titles: bool
 
     @property
@@ -40,8 +56,8 @@ class Size:
         return self.height - self.top - self.bottom
 
 
-WIDE = Size(760, 230, 52, 8, 22, 26, most_labels=14, has_titles=True)
-NARROW = Size(360, 230, 56, 4, 26, 28, most_labels=5, has_titles=False)
+WIDE = Size(760, 230, 52, 8, 22, 26, has_titles=True)
+NARROW = Size(360, 230, 56, 4, 26, 28, has_titles=False)
 
 
 def nice_step(most: float, ticks: int = 4) -> float:
@@ -62,23 +78,36 @@ def number_text(value: float) -> str:
     return f"{value:,.10g}".replace(",", "\u202f")
 
 
-def columns(bars: Sequence[Bar], caption: str, unit: str, size: Size = WIDE) -> str:
-    """Columns side by side over an axis of numbers; of those that have a label as many as there is room for are labelled,
-    and those that are set apart have a mark above."""
-    most = max([bar.value for bar in bars], default=0) or 1.0
+def columns(bars: Sequence[Bar], caption: str, unit: str, size: Size = WIDE, ticks: Sequence[Tick] = ()) -> str:
+    """Columns side by side over an axis of numbers; of those that have a label, or of the ticks in their place, as many as
+    there is room for are labelled, and those that are set apart have a mark above."""
+    most = max([bar.whole for bar in bars], default=0) or 1.0
     step = nice_step(most)
     top = step * max(1, -(-most // step))
     slot = size.inner_width / max(1, len(bars))
     parts = [svg_begin(size, caption), f'<text class="unit" x="0" y="{size.top - 10}">{escape(unit)}</text>']
     parts += axis(size, top, step)
     for place, bar in enumerate(bars):
-        parts.append(column(size, bar, size.left + slot * place, slot, size.inner_height * bar.value / top))
-    for place in labelled(bars, size):
-        x = size.left + slot * (place + 0.5)
-        parts.append(
-            f'<text class="tick" x="{x:.1f}" y="{size.height - 8}" text-anchor="middle">{escape(bars[place].label)}</text>'
-        )
+        parts.append(column(size, bar, size.left + slot * place, slot, size.inner_height / top))
+    shown = ticks or [Tick(place + 0.5, bar.label) for place, bar in enumerate(bars) if bar.label]
+    parts += lower_axis(size, slot, shown)
     return "\n".join([*parts, "</svg>"])
+
+
+def lower_axis(size: Size, slot: float, ticks: Sequence[Tick]) -> Iterable[str]:
+    """The labels below the columns, as many as don't meet; that of a line stands at its top."""
+    plain = [tick for tick in ticks if not tick.has_line]
+    longest = max((len(tick.label) for tick in plain), default=0)
+    most = max(1, size.inner_width // (longest * LETTER + GAP))
+    for tick in plain[:: max(1, -(-len(plain) // most))]:
+        x = size.left + slot * tick.place
+        yield f'<text class="tick" x="{x:.1f}" y="{size.height - 8}" text-anchor="middle">{escape(tick.label)}</text>'
+    for tick in ticks:
+        if tick.has_line:
+            x, foot = size.left + slot * tick.place, size.top + size.inner_height
+            center = min(x, size.width - len(tick.label) * LETTER / 2)
+            yield f'<line class="parting" x1="{x:.1f}" x2="{x:.1f}" y1="{size.top - 4}" y2="{foot}"/>'
+            yield f'<text class="tick" x="{center:.1f}" y="{size.top - 10}" text-anchor="middle">{escape(tick.label)}</text>'
 
 
 def axis(size: Size, top: float, step: float) -> Iterable[str]:
@@ -89,40 +118,42 @@ def axis(size: Size, top: float, step: float) -> Iterable[str]:
         yield f'<text class="tick" x="{size.left - 6}" y="{y + 4:.1f}" text-anchor="end">{number_text(tick * step)}</text>'
 
 
-def labelled(bars: Sequence[Bar], size: Size) -> Sequence[int]:
-    """The places of the columns that are labelled."""
-    places = [place for place, bar in enumerate(bars) if bar.label]
-    return places[:: max(1, -(-len(places) // size.most_labels))]
-
-
-def column(size: Size, bar: Bar, x: float, slot: float, height: float) -> str:
-    """A column in its slot, with its title where the size has titles, and with its mark where it is set apart."""
+def column(size: Size, bar: Bar, x: float, slot: float, scale: float) -> str:
+    """A column in its slot, with its title where the size has titles, and with its mark where it is set apart; `scale` is
+    the height of one."""
     width = min(slot * 0.8, MOST_WIDTH) if slot > 4 else slot * 0.9
-    foot = size.top + size.inner_height
+    foot, center = float(size.top + size.inner_height), x + slot / 2
+    tip = foot - scale * bar.whole - 3
     parts = []
     if size.has_titles:
         parts.append(f"<g><title>{escape(bar.title)}</title>")
         parts.append(f'<rect class="hit" x="{x:.2f}" y="{size.top}" width="{slot:.2f}" height="{size.inner_height}"/>')
-    if bar.value or size.has_titles:
-        parts.append(
-            f'<rect class="{"apart" if bar.is_apart else "bar"}" x="{x + (slot - width) / 2:.2f}"'
-            f' y="{foot - height:.2f}" width="{width:.2f}" height="{height:.2f}"/>'
-        )
-    if bar.is_apart:
-        center, tip = x + slot / 2, foot - height - 3
+    heights = [(bar.value, "apart" if bar.is_apart else "bar"), (bar.more, "apart")]
+    for height, name in heights:
+        foot -= scale * height
+        if height:
+            parts.append(
+                f'<rect class="{name}" x="{center - width / 2:.2f}" y="{foot:.2f}" width="{width:.2f}"'
+                f' height="{scale * height:.2f}"/>'
+            )
+    if bar.is_apart and bar.value:
         parts.append(f'<path class="apart" d="M{center - 4:.1f} {tip - 7:.1f}h8l-4 7z"/>')
+    if bar.says:
+        parts.append(
+            f'<text class="says" x="{center:.1f}" y="{tip:.1f}" text-anchor="middle">{escape(bar.says)}</text>'
+        )
     return "".join([*parts, "</g>" if size.has_titles else ""])
 
 
 def bars_below(bars: Sequence[Bar], caption: str) -> str:
-    """Bars below each other, each under its label and the words of its title behind the last colon."""
+    """Bars below each other, each under its label and the words of its title behind the last colon, some set apart."""
     most = max([bar.value for bar in bars], default=0) or 1.0
     rows = [
         f'<li><span class="label">{escape(bar.label)}</span>'
         f'<span class="value">{escape(bar.title.rpartition(": ")[2])}</span>'
         '<svg viewBox="0 0 100 1" preserveAspectRatio="none" aria-hidden="true">'
         '<rect class="track" width="100" height="1"/>'
-        f'<rect class="bar" width="{100 * bar.value / most:.2f}" height="1"/></svg></li>'
+        f'<rect class="{"apart" if bar.is_apart else "bar"}" width="{100 * bar.value / most:.2f}" height="1"/></svg></li>'
         for bar in bars
     ]
     return f'<ul class="bars" aria-label="{escape(caption)}">\n{chr(10).join(rows)}\n</ul>'

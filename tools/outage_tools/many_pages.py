@@ -88,17 +88,23 @@ def figures_of_sums(sums: Sums) -> dict[str, str]:
 
 
 def tiles(sums: Sums) -> str:
-    return report.tiles(figures_of_sums(sums))
+    return report.tiles(report.boxes(figures_of_sums(sums), bool(sums.marked_in)))
 
 
 def index_part(sums: Sums) -> str:
     """Both sets of the fifteen quotients."""
     return f"""
 <h2>Indices of all districts {report.COMPUTED}</h2>
-<p>Three decimals, and behind them the exact fraction in lowest terms; of ASAI five decimals. <i>Unmarked</i> leaves out
-each interruption that begins on a day that its own book marks. By IEEE Std 1366-2012; an interruption of more than 300
-seconds is sustained. {figures.TERMS}</p>
-{report.index_table(figures_of_sums(sums))}"""
+<p>Three decimals, and behind them the exact fraction in lowest terms; of ASAI five decimals. {said_of_marks(sums)} By IEEE Std
+1366-2012; an interruption of more than 300 seconds is sustained. {figures.TERMS}</p>
+{report.index_table(figures_of_sums(sums), bool(sums.marked_in))}"""
+
+
+def said_of_marks(sums: Sums) -> str:
+    """What figures without major event days are; that no book marks a day."""
+    if not sums.marked_in:
+        return "No book marks a day as a major event day."
+    return "<i>Without major event days</i> leaves out each interruption that begins on a day that its own book marks."
 
 
 def cell_of(value: object) -> object:
@@ -146,7 +152,7 @@ def day_part(sums: Sums) -> str:
     for number, (amount, daily) in enumerate(zip(sums.days, sums.daily_saidi())):
         day, names = str(sums.period.day(number)), sums.marked_in.get(number, ())
         mark = f", marked in {len(names)} of {len(sums.districts)}" if names else ""
-        label = day[5:] if sums.period.days <= report.LONG or day.endswith("-01") else ""
+        label = report.day_label(sums.period.day(number), sums.period.days)
         decimals = decimal_text(daily) or "undefined"
         hours = f"{day}{mark}: {report.hours(amount)} customer-hours"
         posted.append(charts.Bar(label, amount / 3_600, hours, bool(names)))

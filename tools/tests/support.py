@@ -2,7 +2,9 @@
 
 import atexit
 import contextlib
+import html
 import os
+import re
 import shutil
 import sqlite3
 import subprocess
@@ -150,3 +152,8 @@ def written(name: str, text: str) -> Path:
     path = folder() / name
     path.write_text(text)
     return path
+
+
+def text_of(page_text: str) -> str:
+    """What a page, or a part of one, says without its tags."""
+    return re.sub(r"\s+", " ", html.unescape(re.sub("<[^>]*>", " ", page_text.rpartition("<body>")[2])))

@@ -172,11 +172,25 @@ class Pages(unittest.TestCase):
         for case, periods in series().items():
             _, found = answer([district("all", number, *each) for number, each in periods.items()])
             threshold = found.threshold
-            bars = histogram(threshold.logarithms, threshold.logarithm if threshold.is_defined else None)
+            bars, ticks = histogram(threshold.logarithms, threshold.logarithm if threshold.is_defined else None)
             self.assertEqual(sum(bar.value for bar in bars), len(threshold.days))
+            self.assertEqual([tick for tick in ticks if not 0 <= tick.place <= len(bars)], [])
+            self.assertEqual([bar for bar in bars if bar.is_apart and not bar.value], [])
             if threshold.is_defined:
                 above = sum(logarithm > threshold.logarithm for logarithm in threshold.logarithms)
                 self.assertEqual(sum(bar.value for bar in bars if bar.is_apart), above, case)
+                self.assertEqual(ticks[-1].label, f"T_MED {threshold.minutes:.4g} min")
+
+    def test_the_axis_of_the_histogram_is_in_minutes(self) -> None:
+        """Daily SAIDI of 1, 10 and 100 minutes; the threshold at 20."""
+        bars, ticks = histogram([math.log(minutes) for minutes in (1, 10, 100)], math.log(20))
+        places = {tick.label: tick.place for tick in ticks}
+        self.assertEqual(list(places), ["1 min", "10 min", "100 min", "T_MED 20 min"])
+        full = [place for place, bar in enumerate(bars) if bar.value]
+        for place, label in zip(full, list(places)):
+            self.assertAlmostEqual(places[label], place + 0.5, delta=0.5 + 1e-9)
+        self.assertEqual([bar.is_apart for bar in bars if bar.value], [False, False, True])
+        self.assertLessEqual(places["10 min"], places["T_MED 20 min"])
 
     def test_the_page_is_whole(self) -> None:
         years, found = answer([district("all", number, *each) for number, each in series()["five"].items()])

@@ -5,6 +5,7 @@ import json
 import re
 import subprocess
 import unittest
+from dataclasses import replace
 from html.parser import HTMLParser
 from pathlib import Path
 from typing import Any
@@ -14,10 +15,11 @@ from outage_tools.errors import BookError
 from outage_tools.events import read_rule
 from outage_tools.lists import read_cause_groups, read_names, read_section_groups
 from outage_tools.report import Asked, page
-from outage_tools.report.head import value_text
+from outage_tools.report.exact import value_text
 from outage_tools.report.style import css_string
 from tests import support
 from tests.browser import chromium, needs_browser, printed_pages
+from tests.support import text_of
 from tests.test_user_lists import TOWNS
 
 Attributes = list[tuple[str, str | None]]
@@ -76,11 +78,6 @@ def asked_whole() -> Asked:
     )
 
 
-def text_of(page_text: str) -> str:
-    """What a page says, without its tags."""
-    return re.sub(r"\s+", " ", html.unescape(re.sub("<[^>]*>", " ", page_text.partition("<body>")[2])))
-
-
 class Page(unittest.TestCase):
     def test_pages_are_whole_and_need_nothing(self) -> None:
         for made in support.books():
@@ -113,6 +110,35 @@ class Page(unittest.TestCase):
         self.assertEqual(value_text("ASAI", "1999999/2000000 1.000"), "1.00000")
         self.assertEqual(decimal_text(None, 5), "")
 
+    def test_the_first_page_is_for_readers_of_four_figures(self) -> None:
+        """Minutes with one decimal, SAIFI with two, planned and unplanned apart; CEMI and CELID in per cent."""
+        text = text_of(page(support.opened(support.fortnight()), asked_whole()))
+        first = text.partition("Groups of causes computed here")[0]
+        said = [
+            "SAIDI 194.1 minutes per customer without major event days 147.2 planned 38.3 unplanned 155.8 SAIFI 2.33",
+            "Of 31.3 customers served, each was without supply for 194.1 minutes on average, in 2.33 interruptions of 83.3",
+            "A day is marked as a major event day: 2025-03-30.",
+            "MAIFI 0.51 0.51 momentary interruptions",
+            "all days 102.2 % 67.0 % 31.9 % 16.0 % 16.0 % 0.0 %",
+            "CEMI-1 can be above 100 %",
+            "all days 6.4 % 6.4 % 0.0 % 0.0 % 16.0 % 6.4 % 6.4 % 0.0 %",
+        ]
+        for each in said:
+            self.assertIn(each, first)
+        self.assertIsNone(re.search("[0-9]+/[0-9]{2,}", first))
+
+    def test_without_a_marked_day_there_is_one_set(self) -> None:
+        rows = support.EXAMPLES.joinpath("fortnight.csv").read_text().splitlines()
+        plain = support.written("unmarked.csv", "".join(f"{row}\n" for row in rows if not row.startswith("mark,")))
+        found = support.opened(support.made_of("no-marks", [(plain, support.fortnight().period)])[0])
+        whole = page(found, replace(asked_whole(), cover=None))
+        self.assertEqual(text_of(whole).count("without major event days"), 1)
+        self.assertNotIn("unmarked</", whole)
+        self.assertIn(
+            '<td data-set="all unmarked"><b>194.126</b> <span class="fraction">4073935/20986</span></td>', whole
+        )
+        self.assertIn("2025-03 31.1 88.5 45 13 1.447 170.5 117.8 2025-04", text_of(whole))
+
     def test_the_books_state_is_told_on_the_page_and_on_paper(self) -> None:
         text = page(support.opened(support.fortnight()), Asked(date="2025-04-07"))
         state = "102 commands, the last one OUT-0406-1; compared with the program"
@@ -130,10 +156,20 @@ class Page(unittest.TestCase):
             self.assertNotIn(title, plain)
             self.assertIn(title, whole)
         self.assertIn("feeder 1 Mill Lane, Mill", whole)
-        self.assertIn("OUT-0327 2025-03-27 14:22:10 2025-03-27 17:32:00 6 18 1356.500 1 TREE", whole)
-        self.assertIn("QUARRY 1 Mill Lane, Mill 2 5 8 h 45 min 00 s 12 h 34 min 10 s", whole)
-        self.assertIn("Millbury all 17.964 222 130 32 222 130 0 18 1.781 206.086 115.693 0.98975", whole)
-        self.assertIn("planned all 72 720 0.199", whole)
+        self.assertIn("OUT-0327 2025-03-27 14:22:10 2025-03-27 17:32:00 6 18 1356.5 1 TREE", whole)
+        self.assertIn("QUARRY 1 Mill Lane 2 5 0 8:45 12:34 ", whole)
+        self.assertIn("Millbury 18.0 32 0 1.781 206.1 115.7 98.975 %", whole)
+        self.assertIn("Millbury all days 17.964 222 130 32 222 130 0 18", whole)
+        self.assertIn("planned 20.2 19.9 % 8 3 0.255 38.3 150.0", whole)
+
+    def test_feeders_stand_by_their_saidi_and_the_worst_is_set_apart(self) -> None:
+        text = page(support.opened(support.fortnight()), asked_whole())
+        part = text.partition('<section id="feeders">')[2].partition("</section>")[0]
+        self.assertIn("Set apart: the worst 5 % of the 2 feeders, 1 of them.", part)
+        rows = re.findall("<tr( class=.marked.)?>(<td.*?)</tr>", part)
+        self.assertEqual([bool(marked) for marked, _ in rows], [True, False])
+        self.assertEqual([text_of(row).split()[:3] for _, row in rows], [["1", "1", "Mill"], ["2", "2", "Harbour,"]])
+        self.assertEqual(part.count('<rect class="apart"'), 1)
 
     def test_a_late_outage_is_shown_by_its_own_size(self) -> None:
         text = text_of(page(support.opened(support.fortnight())))
@@ -167,7 +203,8 @@ class Page(unittest.TestCase):
 
 
 # What a browser measures of the page: of each letter of a picture that is shown its height in pixels as `letters`, how
-# wide page and window are, where fractions wrap and what an index is lies out of sight, which regions scroll without a key.
+# wide page and window are, where fractions wrap and what an index is lies out of sight, which tables scroll, and which regions
+# do without a key.
 PROBE = """<script>
 const shown = each => each.getClientRects().length > 0;
 const all = name => [...document.querySelectorAll(name)].filter(shown);
@@ -180,6 +217,7 @@ const found = JSON.stringify({
   wrapped: all(".fraction").filter(each => each.getClientRects().length > 1).length,
   fractions: all(".fraction").length,
   meanings: all(".indices td.long").map(each => each.getBoundingClientRect().right),
+  scrolling: all(".wide").filter(scrolls).map(each => each.getAttribute("aria-label")),
   keyless: all("*").filter(scrolls).filter(each => !["visible", "hidden"].includes(getComputedStyle(each).overflowX)
     && each.tabIndex < 0).map(each => each.className),
 });
@@ -228,8 +266,11 @@ class InBrowser(unittest.TestCase):
                 self.assertEqual(len(found["pictures"]), 3)
                 self.assertLessEqual(max(found["pictures"]), width)
                 self.assertGreaterEqual(min(found["letters"]), 11)
-                self.assertEqual((found["wrapped"], found["fractions"]), (0, 30))
-                self.assertEqual(len(found["meanings"]), 17)
+                self.assertEqual((found["wrapped"], found["fractions"]), (0, 70))
+                self.assertEqual(len(found["meanings"]), 37)
+                self.assertNotIn("Worst served customers", found["scrolling"])
+                if width >= 1280:
+                    self.assertEqual(found["scrolling"], [])
                 self.assertLessEqual(max(found["meanings"]), width)
                 self.assertEqual(found["keyless"], [])
 
@@ -246,10 +287,26 @@ class InBrowser(unittest.TestCase):
             self.assertRegex(lines[0], "^Mill and Hill 2025-03-24 to 2025-04-06 .*2025-04-07$")
             state = f"102 commands, the last one OUT-0406-1; compared with the program .*page {number} of {len(pages)}$"
             self.assertRegex(lines[-1], f"^{state}")
-        together = [("CEMI-10", "MOMENTARY"), ("Indices", "MOMENTARY"), ("2025-04-04", "2025-04-06")]
-        for first, last in together:
-            self.assertTrue(any(first in text and last in text for text in pages), (first, last))
+        together = [
+            ("SAIDI", "can be above 100 %", "in all its interruptions"),
+            ("Appendix: exact figures", "index"),
+            ("SAIDI by month", "Minutes per customer served of the month", "2025-04"),
+            (
+                "Feeders, the worst by SAIDI first",
+                "SAIDI in minutes per customer served of the feeder",
+                "Harbour, Hill",
+            ),
+            ("Causes, greatest first", "Customer-hours without supply under each cause", "STORM"),
+        ]
+        for words in together:
+            self.assertTrue(any(all(word in text for word in words) for text in pages), words)
         self.assertNotIn("opened", "".join(pages))
+
+    def test_no_heading_is_the_last_of_a_page(self) -> None:
+        titles = {text_of(title).strip() for title in re.findall("<h[23]>(.*?)</h[23]>", self.text, re.S)}
+        for text in self.printed():
+            body = [re.sub(" +", " ", line.strip()) for line in text.strip().splitlines() if line.strip()][:-1]
+            self.assertNotIn(body[-1], titles)
 
     def test_no_page_but_the_last_is_a_third_empty(self) -> None:
         self.printed()
@@ -268,7 +325,7 @@ class InBrowser(unittest.TestCase):
         path, out = support.folder() / "closed.html", support.folder() / "closed.pdf"
         path.write_text(closed, encoding="utf-8")
         text = "".join(printed_pages(path, out))
-        self.assertRegex(text, "2025-03-30 +147\\s?600 .*marked by ENG-4")
+        self.assertRegex(text, "2025-03-30 +41.0 .*by ENG-4")
 
 
 class Read(unittest.TestCase):

@@ -13,8 +13,8 @@ from outage_tools.pack.files import INTERRUPTIONS
 from outage_tools.workbook.reading import Grid, read_workbook
 
 OF_ROWS = re.compile(r"interruptions( [0-9]+)?")  # the sheets of interruptions
-OF_REPORT = re.compile(r'<tr><td><strong>([A-Z0-9-]+)</strong></td>((?:<td data-set="[a-z]+">.*?</td>)+)')
-OF_SET = re.compile(r'<td data-set="([a-z]+)"><b>([^<]*)</b>(?: <span class="fraction">([^<]*)</span>)?</td>')
+OF_REPORT = re.compile(r'<tr><td><strong>([A-Z0-9-]+)</strong></td>((?:<td data-set="[a-z ]+">.*?</td>)+)')
+OF_SET = re.compile(r'<td data-set="([a-z ]+)"><b>([^<]*)</b>(?: <span class="fraction">([^<]*)</span>)?</td>')
 
 
 def words_of_table(table: str) -> dict[str, str]:
@@ -82,8 +82,9 @@ def report_shows(path: Path) -> dict[str, tuple[str, str]]:
     """The program's indices in a report."""
     found: dict[str, tuple[str, str]] = {}
     for index, cells in OF_REPORT.findall(path.read_text(encoding="utf-8")):
-        for which, value, fraction in OF_SET.findall(cells):
-            found[f"{index} {which}"] = ("", "undefined") if value == "undefined" else (value, fraction)
+        for sets, value, fraction in OF_SET.findall(cells):
+            for which in sets.split():  # one cell is of both sets where no day is marked
+                found[f"{index} {which}"] = ("", "undefined") if value == "undefined" else (value, fraction)
     return found
 
 

@@ -5,11 +5,10 @@ from html import escape
 
 from outage_tools.agree import Agreement, TicketRow, about, exact_text, sections_text
 from outage_tools.compare import Checked
-from outage_tools.report.pieces import COMPUTED, Column, Part, TableRow, number, numbers, signed, table
+from outage_tools.report.pieces import COMPUTED, NONE, Column, Part, TableRow, number, numbers, signed, table
 
 MOST_TICKETS = 25
 MOST_SECTIONS = 4
-NONE = "\u2013"
 HEADS = [
     Column("ticket"),
     *numbers("customers, OMS", "book", "more"),
@@ -24,7 +23,6 @@ def optional(value: int | None) -> str:
 
 
 def ticket_row(found: Checked, row: TicketRow) -> TableRow:
-    """A ticket; one that rounding doesn't explain is set apart."""
     told, here = row.told, row.found
     minutes = told.customer_minutes if told else None
     cells = [
@@ -38,17 +36,20 @@ def ticket_row(found: Checked, row: TicketRow) -> TableRow:
         sections_text(found.book, here, MOST_SECTIONS),
         "; ".join(row.why),
     ]
-    return TableRow(cells, not row.is_rounded)
+    return TableRow(cells)
 
 
 def agreement_part(found: Checked, agreement: Agreement) -> Part:
-    """The tickets that differ most, and the sums of both sides."""
+    """The tickets that differ for another reason than rounding, and the sums of both sides."""
     sums = " ".join(escape(line) for line in about(agreement))
-    rest = len(agreement.rows) - MOST_TICKETS
-    shown = f" The first {MOST_TICKETS} of {number(len(agreement.rows))} tickets." if rest > 0 else ""
-    rows = (ticket_row(found, row) for row in agreement.rows[:MOST_TICKETS])
+    different = [row for row in agreement.rows if not row.is_rounded]
+    rest = len(agreement.rows) - len(different) - sum(row.is_untold for row in agreement.rows)
+    shown = f", the first {MOST_TICKETS} of {number(len(different))}" if len(different) > MOST_TICKETS else ""
+    rows = [ticket_row(found, row) for row in different[:MOST_TICKETS]]
     content = f"""
-<p>Customers and customer-minutes that the outage management system counts, beside those of the book, the greatest
-difference first; minutes of the book are rounded here. {sums}{shown}</p>
-{table(HEADS, rows)}"""
+<p>Customers and customer-minutes that the outage management system counts, beside those of the book; minutes of the book are
+rounded here. {sums}</p>
+<p>Tickets that are equal, or equal but for rounded minutes: {number(rest)}. Those that differ for another reason{shown}, the
+greatest difference first:</p>
+{table(HEADS, rows) if rows else "<p>There is none.</p>"}"""
     return Part("agreement", "Beside the OMS's own counts", COMPUTED, content)

@@ -1,19 +1,21 @@
-"""The parts of a page that have pictures: days, months, causes and feeders, each with the table behind it."""
+"""The parts of a page that have pictures: days, months and causes, each with its table."""
 
-from collections.abc import Iterable
+from collections.abc import Iterable, Mapping, Sequence
 from dataclasses import dataclass, field
+from datetime import date
+from fractions import Fraction
 
 from outage_tools.causes import CauseGroup, CauseRow, cause_group_rows, cause_rows
-from outage_tools.charts import NARROW, Bar, bars_below, columns, legend
+from outage_tools.charts import NARROW, Bar, Tick, bars_below, columns, legend
 from outage_tools.compare import Checked
-from outage_tools.counts import decimal_text
+from outage_tools.counts import SETS
 from outage_tools.days import DayRow, day_rows, month_rows
-from outage_tools.feeders import feeder_rows
-from outage_tools.lists import Groups, Names
+from outage_tools.lists import Groups
 from outage_tools.rates import GroupRow, Rates
 from outage_tools.report.pieces import (
     COMPUTED,
     PROVED,
+    SET_NAMES,
     Column,
     Part,
     TableRow,
@@ -22,8 +24,10 @@ from outage_tools.report.pieces import (
     figure,
     hours,
     length_of,
+    minutes,
     number,
     numbers,
+    per_cent,
     table,
 )
 from outage_tools.report.style import PICTURE_STYLE
@@ -45,7 +49,7 @@ def days_of(found: Checked) -> Days:
     for row in days.rows:
         mark = ", marked" if row.is_marked else ""
         day = row.day.isoformat()
-        label = day[5:] if len(days.rows) <= LONG or row.day.day == 1 else ""
+        label = day_label(row.day, len(days.rows))
         title = f"{day}{mark}: {hours(row.posted)} customer-hours"
         days.posted.append(Bar(label, row.posted / 3_600, title, row.is_marked))
         title = f"{day}{mark}: {decimal(row.begun.saidi)} minutes per customer"
@@ -53,9 +57,17 @@ def days_of(found: Checked) -> Days:
     return days
 
 
-def drawn(bars: list[Bar], title: str, unit: str, note: str, source: str = "") -> str:
+def day_label(day: date, days: int) -> str:
+    """What stands below a day: its date, or of a long period the month on its first day alone."""
+    if days <= LONG:
+        return day.isoformat()
+    return day.isoformat()[:7] if day.day == 1 else ""
+
+
+def drawn(bars: list[Bar], title: str, unit: str, note: str, source: str = "", ticks: Sequence[Tick] = ()) -> str:
     """Columns with their words, drawn for wide screens and for narrow ones."""
-    return figure(columns(bars, title, unit), note, "columns", source, columns(bars, title, unit, NARROW))
+    narrow = columns(bars, title, unit, NARROW, ticks)
+    return figure(columns(bars, title, unit, ticks=ticks), note, "columns", source, narrow)
 
 
 POSTED = "Customer-hours without supply, day by day", "customer-hours"
@@ -69,9 +81,10 @@ STANDARD_NOTE = (
 )
 DAY_HEADS = [
     Column("day"),
-    *numbers("customer-seconds in it", "daily SAIDI, min", "sustained begun", "momentary begun"),
+    *numbers("customer-hours in it", "daily SAIDI, min", "sustained begun", "momentary begun"),
     Column("marked"),
 ]
+DAY_DECIMALS = 2  # of a daily SAIDI, which mostly is less than a minute
 
 
 def picture(found: Checked) -> str:
@@ -83,11 +96,11 @@ def picture(found: Checked) -> str:
 def day_row(row: DayRow) -> TableRow:
     cells = [
         row.day,
-        number(row.posted),
-        decimal(row.begun.saidi),
+        hours(row.posted),
+        decimal(row.begun.saidi, DAY_DECIMALS),
         number(row.begun.tally.sustained),
         number(row.begun.tally.momentary),
-        f"marked by {row.engineer}" if row.is_marked else "",
+        f"by {row.engineer}" if row.is_marked else "",
     ]
     return TableRow(cells, row.is_marked)
 
@@ -95,101 +108,95 @@ def day_row(row: DayRow) -> TableRow:
 def day_part(found: Checked) -> Part:
     """Days as bars, in both readings."""
     days = days_of(found)
-    rows = [day_row(row) for row in days.rows if row.posted or row.is_marked or row.begun.tally.momentary]
-    summary = f"The {len(rows)} days with interruptions or a mark"
+    meanings = ["a day", "a marked day"] if found.book.marks else []
     content = f"""
-{legend(["a day", "a marked day"])}
+{legend(meanings) if meanings else ""}
 {drawn(days.posted, *POSTED, POSTED_NOTE, PROVED)}
-{drawn(days.standard, "Daily SAIDI, day by day", "minutes per customer", STANDARD_NOTE, COMPUTED)}
-{behind(summary, table(DAY_HEADS, rows), len(rows))}"""
+{drawn(days.standard, "Daily SAIDI, day by day", "minutes per customer", STANDARD_NOTE, COMPUTED)}"""
     return Part("days", "Days", "", content)
 
 
-RATES_HEADS = numbers("SAIFI", "SAIDI, min", "CAIDI, min")
+def marked_days(found: Checked) -> str:
+    """The marked days, where there are any."""
+    rows = [day_row(row) for row in day_rows(found) if row.is_marked]
+    return f"\n<h3>Marked days</h3>\n{table(DAY_HEADS, rows, 'Marked days')}" if rows else ""
 
 
-def rates_cells(rates: Rates) -> list[str]:
-    """The cells of RATES_HEADS."""
-    return [decimal(value) for value in (rates.saifi, rates.saidi, rates.caidi)]
+def day_table_part(found: Checked) -> Part:
+    """The figures of the days, for the end of a page."""
+    rows = [day_row(row) for row in day_rows(found) if row.posted or row.is_marked or row.begun.tally.momentary]
+    summary = f"The {len(rows)} days with interruptions or a mark"
+    content = f"""
+<p>Customer-hours without supply that lie in the day, momentary interruptions too; minutes per customer served of the
+sustained interruptions that begin on it.</p>
+{behind(summary, table(DAY_HEADS, rows), len(rows))}"""
+    return Part("day-figures", "Appendix: the days", COMPUTED, content)
 
 
-def feeder_text(feeder: int, names: Names) -> str:
-    """A feeder's number, with its name where it has one."""
-    known = names.get(feeder)
-    if known is None:
-        return str(feeder)
-    return f"{feeder} {known.name}, {known.substation}" if known.substation else f"{feeder} {known.name}"
+# Figures of both sets in one row.
 
 
-def group_table(heads: list[Column], rows: Iterable[tuple[list[object], GroupRow]]) -> str:
-    """Months or feeders in both sets, behind columns that say which."""
-    heads = [
-        *heads,
-        Column("set"),
-        *numbers("customers served", "sustained", "momentary"),
-        *RATES_HEADS,
-        *numbers("customer-seconds"),
-    ]
-    return table(heads, [TableRow([*named, *group_cells(row)]) for named, row in rows])
+def rates_heads(found: Checked) -> list[Column]:
+    """SAIFI, SAIDI and CAIDI of all days, and where a day is marked without major event days too."""
+    titles = ("SAIFI", "SAIDI, min", "CAIDI, min")
+    if not found.book.marks:
+        return numbers(*titles)
+    return [column for name in SET_NAMES.values() for column in numbers(*titles, over=name)]
 
 
-def group_cells(row: GroupRow) -> list[object]:
-    tally = row.rates.tally
-    counts = number(tally.sustained), number(tally.momentary)
-    customers = decimal_text(row.rates.customers)
-    return [row.set, customers, *counts, *rates_cells(row.rates), number(row.seconds)]
+def rates_cells(found: Checked, rates_of: Mapping[str, Rates]) -> list[str]:
+    """The cells of rates_heads, by the rates of both sets."""
+    shown = [rates_of[name] for name in (SETS if found.book.marks else SETS[:1])]
+    return [cell for each in shown for cell in (decimal(each.saifi), minutes(each.saidi), minutes(each.caidi))]
 
 
-def saidi_bar(label: str, row: GroupRow) -> Bar:
-    return Bar(label, length_of(row.rates.saidi), f"{label}: {decimal(row.rates.saidi)} min")
+def by_name(rows: Iterable[GroupRow]) -> dict[int | str, dict[str, GroupRow]]:
+    """Rows of both sets by the month or the feeder that they are of."""
+    found: dict[int | str, dict[str, GroupRow]] = {}
+    for row in rows:
+        found.setdefault(row.name, {})[row.set] = row
+    return found
+
+
+GROUP_HEADS = numbers("customers served", "customer-hours", "sustained", "momentary")
+
+
+def group_cells(found: Checked, sets: Mapping[str, GroupRow]) -> list[str]:
+    """The cells of GROUP_HEADS and rates_heads."""
+    whole = sets["all"]
+    counts = number(whole.rates.tally.sustained), number(whole.rates.tally.momentary)
+    rates = {name: row.rates for name, row in sets.items()}
+    return [minutes(whole.rates.customers), hours(whole.seconds), *counts, *rates_cells(found, rates)]
+
+
+def saidi_bar(label: str, saidi: Fraction | None, is_apart: bool = False) -> Bar:
+    return Bar(label, length_of(saidi), f"{label}: {minutes(saidi)} min", is_apart)
 
 
 def month_part(found: Checked) -> Part:
-    """SAIDI by month, and the table behind it."""
-    rows = month_rows(found)
+    """SAIDI by month, and its table."""
+    months = by_name(month_rows(found))
+    bars = [saidi_bar(str(name), sets["all"].rates.saidi) for name, sets in months.items()]
     title = "SAIDI by month"
-    bars = [saidi_bar(str(row.name), row) for row in rows if row.set == "all"]
     note = "Minutes per customer served of the month, all interruptions that begin in it."
-    shown = group_table([Column("month")], (([row.name], row) for row in rows))
+    rows = [TableRow([name, *group_cells(found, sets)]) for name, sets in months.items()]
     content = f"""
 {drawn(bars, title, "minutes per customer", note)}
-{behind("The figures of this picture", shown, len(rows))}"""
+{table([Column("month"), *GROUP_HEADS, *rates_heads(found)], rows)}"""
     return Part("months", title, COMPUTED, content)
-
-
-def feeder_part(found: Checked, names: Names) -> Part:
-    """SAIDI by feeder, and the table behind it."""
-    rows = feeder_rows(found)
-    title = "SAIDI by feeder"
-    bars = [saidi_bar(f"feeder {feeder_text(int(row.name), names)}", row) for row in rows if row.set == "all"]
-    note = "Minutes per customer served of the feeder, all interruptions of its sections."
-    heads = [Column("feeder"), *([Column("name"), Column("substation")] if names else [])]
-    shown = group_table(heads, ((feeder_cells(int(row.name), names), row) for row in rows))
-    content = f"""
-{figure(bars_below(bars, title), note, "below")}
-{behind("The figures of this picture", shown, len(rows))}"""
-    return Part("feeders", title, COMPUTED, content)
-
-
-def feeder_cells(feeder: int, names: Names) -> list[object]:
-    """A feeder's number, and its name and substation where a list has names."""
-    known = names.get(feeder)
-    return [feeder, *([known.name if known else "", known.substation if known else ""] if names else [])]
 
 
 CAUSE_HEADS = [
     Column("cause"),
-    Column("name"),
-    *numbers("customer-seconds", "share of W", "sustained", "momentary"),
-    *RATES_HEADS,
+    *numbers("code", "customer-hours", "share", "sustained", "momentary", "SAIFI", "SAIDI, min", "CAIDI, min"),
 ]
 
 
 def cause_row(row: CauseRow) -> TableRow:
     rates = row.rates
-    indices = decimal_text(rates.saifi), decimal_text(rates.saidi), decimal(rates.caidi)
+    indices = decimal(rates.saifi), minutes(rates.saidi), minutes(rates.caidi)
     counts = number(rates.tally.sustained), number(rates.tally.momentary)
-    return TableRow([row.code, row.name, number(row.posted), decimal_text(row.share), *counts, *indices])
+    return TableRow([row.name, row.code, hours(row.posted), per_cent(row.share), *counts, *indices])
 
 
 def cause_part(found: Checked) -> Part:
@@ -208,26 +215,25 @@ def cause_part(found: Checked) -> Part:
     return Part("causes", "Causes, greatest first", PROVED, content)
 
 
-CAUSE_GROUP_HEADS = [
-    Column("group"),
-    Column("set"),
-    *numbers("customer-seconds", "share", "sustained", "momentary"),
-    *RATES_HEADS,
-    Column("causes", "long"),
-]
+CAUSE_GROUP_HEADS = [Column("group"), *numbers("customer-hours", "share", "sustained", "momentary")]
 
 
-def cause_group_row(row: CauseGroup) -> TableRow:
-    tally = row.rates.tally
-    counts = number(tally.sustained), number(tally.momentary)
-    seconds, share = number(row.seconds), decimal_text(row.share)
-    cells = [row.name or "in no group", row.set, seconds, share, *counts, *rates_cells(row.rates)]
-    return TableRow([*cells, ", ".join(row.causes)])
+def cause_group_row(found: Checked, sets: Mapping[str, CauseGroup]) -> TableRow:
+    whole = sets["all"]
+    tally = whole.rates.tally
+    cells = [whole.name or "in no group", hours(whole.seconds), per_cent(whole.share)]
+    cells += [number(tally.sustained), number(tally.momentary)]
+    cells += rates_cells(found, {name: group.rates for name, group in sets.items()})
+    return TableRow([*cells, ", ".join(whole.causes)])
 
 
 def cause_group_part(found: Checked, groups: Groups) -> Part:
     """Groups of causes apart: planned and unplanned."""
-    shown = table(CAUSE_GROUP_HEADS, map(cause_group_row, cause_group_rows(found, groups)))
+    sets: dict[str, dict[str, CauseGroup]] = {}
+    for row in cause_group_rows(found, groups):
+        sets.setdefault(row.name, {})[row.set] = row
+    heads = [*CAUSE_GROUP_HEADS, *rates_heads(found), Column("causes", "long")]
+    shown = table(heads, (cause_group_row(found, each) for each in sets.values()))
     content = f"""
 <p>An interruption has the cause of the switching that cut off. All are over all customers served, so the groups' SAIFI and
 SAIDI add up to the book's.</p>

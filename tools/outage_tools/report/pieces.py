@@ -4,11 +4,15 @@ from collections.abc import Iterable, Sequence
 from dataclasses import dataclass
 from fractions import Fraction
 from html import escape
+from itertools import groupby
 from typing import Literal
 
 from outage_tools.counts import decimal_text
 
 FEW = 24  # rows of a table behind a picture that is open from the start
+SHORT = 14  # rows of a table that stands on one sheet of paper
+NONE = "\u2013"  # where there is no value
+SET_NAMES = {"all": "all days", "unmarked": "without major event days"}
 PROVED = '<span class="proved" title="Printed or kept by the proved program">from the program</span>'
 COMPUTED = '<span class="computed" title="Computed by this page\'s tool from the rows of the book">computed here</span>'
 
@@ -37,9 +41,34 @@ def duration(seconds: int) -> str:
     return " ".join(f"{value:02} {unit}" if place else f"{value} {unit}" for place, (value, unit) in enumerate(parts))
 
 
-def decimal(value: Fraction | None) -> str:
-    """Three decimals."""
-    return "undefined" if value is None else decimal_text(value)
+def clock(seconds: int) -> str:
+    """Hours and minutes, rounded half up to a minute: `12:34`."""
+    minutes = (seconds + 30) // 60
+    return f"{number(minutes // 60)}:{minutes % 60:02}"
+
+
+def decimal(value: Fraction | None, places: int = 3) -> str:
+    """Three decimals, or as many as are asked for."""
+    return "undefined" if value is None else decimal_text(value, places)
+
+
+def minutes(value: Fraction | None) -> str:
+    """Minutes, one decimal."""
+    return decimal(value, 1)
+
+
+def per_cent(share: Fraction | None, places: int = 1) -> str:
+    """A share as per cent."""
+    return "undefined" if share is None else f"{decimal_text(100 * share, places)} %"
+
+
+def change(now: Fraction | None, before: Fraction | None) -> str:
+    """By how much a value is above or below that of before, in per cent of it."""
+    if now is None or not before:
+        return NONE
+    amount = decimal_text(abs(now - before) / before * 100, 1)
+    sign = "" if amount == "0.0" else "+" if now > before else "\u2212"
+    return f"{sign}{amount} %"
 
 
 def length_of(value: Fraction | None) -> float:
@@ -49,10 +78,12 @@ def length_of(value: Fraction | None) -> float:
 
 @dataclass(frozen=True)
 class Column:
-    """A column of a table: numbers stand to the right, `code` is the program's words, `long` are texts of some lines."""
+    """A column of a table: numbers stand to the right, `code` is the program's words, `name` and `long` are texts of
+    some lines. Above neighbours of one `over` stand its words."""
 
     title: str
-    kind: Literal["", "number", "code", "long"] = ""
+    kind: Literal["", "number", "code", "name", "long"] = ""
+    over: str = ""
 
     @property
     def attribute(self) -> str:
@@ -60,9 +91,9 @@ class Column:
         return f' class="{self.kind}"' if self.kind else ""
 
 
-def numbers(*titles: str) -> list[Column]:
+def numbers(*titles: str, over: str = "") -> list[Column]:
     """Columns of numbers."""
-    return [Column(title, "number") for title in titles]
+    return [Column(title, "number", over) for title in titles]
 
 
 @dataclass(frozen=True)
@@ -73,19 +104,34 @@ class TableRow:
     is_marked: bool = False
 
 
-def table(heads: Sequence[Column], rows: Iterable[TableRow], label: str = "") -> str:
-    """A table that is scrolled by itself where the screen is too narrow for it, by the keyboard too."""
-    lines = ["<table><thead><tr>"]
-    lines += [f'<th scope="col"{head.attribute}>{escape(head.title)}</th>' for head in heads]
-    lines.append("</tr></thead><tbody>")
-    for row in rows:
-        cells = "".join(
-            f"<td{head.attribute}>{escape(str(cell))}</td>" for cell, head in zip(row.cells, heads, strict=True)
-        )
-        lines.append(f'<tr class="marked">{cells}</tr>' if row.is_marked else f"<tr>{cells}</tr>")
-    lines.append("</tbody></table>")
+def head_rows(heads: Sequence[Column]) -> str:
+    """The heads of a table, and above them the words that stand over some of them."""
+    upper = ""
+    if any(head.over for head in heads):
+        spans = ((over, len([*columns])) for over, columns in groupby(heads, lambda head: head.over))
+        cells = (f'<th colspan="{count}"{" class=over" if over else ""}>{escape(over)}</th>' for over, count in spans)
+        upper = f"<tr>{''.join(cells)}</tr>"
+    lower = "".join(f'<th scope="col"{head.attribute}>{escape(head.title)}</th>' for head in heads)
+    return f"<thead>{upper}<tr>{lower}</tr></thead>"
+
+
+def body_row(heads: Sequence[Column], row: TableRow) -> str:
+    """A row; each cell has the head of its column, which stands before it on screens that are too narrow for a table."""
+    cells = "".join(
+        f'<td{head.attribute} data-label="{escape(head.title)}">{escape(str(cell))}</td>'
+        for cell, head in zip(row.cells, heads, strict=True)
+    )
+    return f'<tr class="marked">{cells}</tr>' if row.is_marked else f"<tr>{cells}</tr>"
+
+
+def table(heads: Sequence[Column], rows: Iterable[TableRow], label: str = "", kind: Literal["", "cards"] = "") -> str:
+    """A table that is scrolled by itself where the screen is too narrow for it, by the keyboard too; one of `cards` isn't:
+    its rows are written below each other there."""
+    lines = [body_row(heads, row) for row in rows]
+    classes = " ".join(each for each in ("wide", kind, "short" if len(lines) <= SHORT else "") if each)
+    inner = f"<table>{head_rows(heads)}<tbody>{''.join(lines)}</tbody></table>"
     name = escape(label or f"Table by {heads[0].title}")
-    return f'<div class="wide" tabindex="0" role="region" aria-label="{name}">{"".join(lines)}</div>'
+    return f'<div class="{classes}" tabindex="0" role="region" aria-label="{name}">{inner}</div>'
 
 
 def behind(summary: str, content: str, rows: int) -> str:

@@ -1,25 +1,29 @@
-"""The parts of a page that are lists: groups of sections, events, customers, worst interruptions, what late work moved."""
+"""The parts of a page that are lists: groups of sections, events, worst interruptions, what late work moved."""
 
+from collections.abc import Iterator
+from fractions import Fraction
 from html import escape
 
 from outage_tools.compare import Checked
-from outage_tools.counts import decimal_text, quotient
-from outage_tools.customers import Served, served_customers
+from outage_tools.counts import SETS, quotient
 from outage_tools.events import Event, Rule, events_of, told_unfit
 from outage_tools.interruptions import Interruption, joined
 from outage_tools.lists import Groups, Names, told_missing
 from outage_tools.outages import references
-from outage_tools.report.pictures import feeder_text
+from outage_tools.report.feeders import feeder_name
 from outage_tools.report.pieces import (
     COMPUTED,
     PROVED,
+    SET_NAMES,
     Column,
     Part,
     TableRow,
     decimal,
     duration,
+    minutes,
     number,
     numbers,
+    per_cent,
     signed,
     table,
 )
@@ -34,32 +38,44 @@ def of_all(shown: int, count: int, what: str) -> str:
     return f"All {number(count)} {what}" if shown == count else f"{number(shown)} of {number(count)} {what}"
 
 
-GROUP_HEADS = [
-    Column("group"),
-    Column("set"),
-    *numbers("customers served", "W", "CI", "CSI", "MI", "CN"),
-    *numbers("SAIFI", "SAIDI, min", "CAIDI, min", "ASAI"),
-]
+INDICES = ("SAIFI", "SAIDI", "CAIDI", "ASAI")
 GROUP_TITLES = {"sum": "all groups together", "book": "the book's own"}
 
 
-def group_row(row: Counted) -> TableRow:
-    indices, counts = row.indices, row.counts
-    customers = decimal(quotient(row.served, row.length))
-    amounts = row.customer_seconds, counts.sustained, counts.sustained_seconds, counts.momentary, counts.with_some[0]
-    values = [decimal(indices[index]) for index in ("SAIFI", "SAIDI", "CAIDI")]
-    asai = decimal_text(indices["ASAI"], 5) or "undefined"
-    cells = [GROUP_TITLES.get(row.row, row.name), row.set, customers, *map(number, amounts), *values, asai]
-    return TableRow(cells, row.row != "group")
+def index_heads(found: Checked) -> list[Column]:
+    """The indices of all days, and where a day is marked without major event days too."""
+    titles = ("SAIFI", "SAIDI, min", "CAIDI, min", "ASAI")
+    if not found.book.marks:
+        return numbers(*titles)
+    return [column for name in SET_NAMES.values() for column in numbers(*titles, over=name)]
+
+
+def index_cells(row: Counted) -> list[str]:
+    saifi, saidi, caidi, asai = (row.indices[index] for index in INDICES)
+    return [decimal(saifi), minutes(saidi), minutes(caidi), per_cent(asai, 3)]
+
+
+def group_rows(found: Checked, groups: Groups) -> Iterator[TableRow]:
+    """Each group, their sum, and the book's own, which are set apart."""
+    sets: dict[tuple[str, str], dict[str, Counted]] = {}
+    for row in counted_groups(found, groups):
+        sets.setdefault((row.row, row.name), {})[row.set] = row
+    for (kind, name), rows in sets.items():
+        whole, shown = rows["all"], SETS if found.book.marks else SETS[:1]
+        counts = number(whole.counts.sustained), number(whole.counts.momentary)
+        customers = minutes(quotient(whole.served, whole.length))
+        indices = [cell for which in shown for cell in index_cells(rows[which])]
+        yield TableRow([GROUP_TITLES.get(kind, name), customers, *counts, *indices], kind != "group")
 
 
 def group_part(found: Checked, groups: Groups) -> Part:
     """The indices of groups of sections, beside the book's own."""
     missing = told_missing("Sections in no group, and not in the sum", sections_without_group(found, groups))
+    heads = [Column("group"), *numbers("customers served", "sustained", "momentary"), *index_heads(found)]
     content = f"""
 <p>Each group over the customers of its own sections. The sum adds up the groups' counts and divides them anew; it is the
 book's own where every section is in a group. {escape(" ".join(missing))}</p>
-{table(GROUP_HEADS, map(group_row, counted_groups(found, groups)))}"""
+{table(heads, group_rows(found, groups))}"""
     return Part("groups", "Groups of sections", COMPUTED, content)
 
 
@@ -81,7 +97,7 @@ def event_row(found: Checked, event: Event) -> TableRow:
         book.period.zone.short_text(event.last),
         len(event.steps),
         number(event.customers),
-        decimal(event.minutes),
+        minutes(event.minutes),
         ", ".join(map(str, event.feeders(book))),
         event.causes(book),
     ]
@@ -100,45 +116,11 @@ switchings began, each customer counted once. Those that begin on marked days ar
     return Part("events", "Events", COMPUTED, content)
 
 
-CUSTOMER_HEADS = [
-    Column("section"),
-    Column("feeder"),
-    *numbers("customers", "sustained", "longest", "without supply"),
-    Column("cause and seconds of each interruption", "long"),
-]
-
-
-def customer_row(found: Checked, served: Served, names: Names) -> TableRow:
-    book = found.book
-    section = book.sections[served.block.section]
-    cells = [
-        section.name,
-        feeder_text(section.feeder, names),
-        number(served.block.customers),
-        len(served.sustained),
-        duration(served.longest),
-        duration(served.seconds),
-        served.causes_text(book),
-    ]
-    return TableRow(cells)
-
-
-def customer_part(found: Checked, names: Names) -> Part:
-    """The worst served customers, those of equal service together."""
-    groups = [served for served in served_customers(found) if served.had]
-    rows = [customer_row(found, served, names) for served in groups[:WORST]]
-    content = f"""
-<p>{of_all(len(rows), len(groups), "groups of equal service with interruptions")}: customers of one section who were in service
-at the same time had the same interruptions. The most sustained interruptions first, then the longest one.</p>
-{table(CUSTOMER_HEADS, rows)}"""
-    return Part("customers", "Worst served customers", COMPUTED, content)
-
-
 WORST_HEADS = [
     Column("section"),
-    Column("feeder"),
+    Column("feeder", "name"),
     Column("since"),
-    *numbers("duration", "customers", "customer-seconds"),
+    *numbers("duration", "customers", "customer-minutes"),
     Column("cause"),
     Column("reference"),
 ]
@@ -154,11 +136,11 @@ def worst_row(found: Checked, each: Interruption, refs: dict[int, str], names: N
     section = book.sections[each.section]
     cells = [
         section.name,
-        feeder_text(section.feeder, names),
+        feeder_name(section.feeder, names),
         book.period.zone.short_text(each.since),
         duration(each.seconds),
         number(each.customers),
-        number(each.customer_seconds),
+        minutes(Fraction(each.customer_seconds, 60)),
         book.causes.get(each.cause, ""),
         refs[cutter.number] if cutter else "",
     ]
@@ -170,7 +152,7 @@ def worst_part(found: Checked, names: Names) -> Part:
     refs, interruptions = references(found), sorted(joined(found.interruptions), key=rank)
     rows = [worst_row(found, each, refs, names) for each in interruptions[:WORST]]
     content = f"""
-<p>{of_all(len(rows), len(interruptions), "interruptions")}, those with the most customer-seconds first, customers of one
+<p>{of_all(len(rows), len(interruptions), "interruptions")}, those with the most customer-minutes first, customers of one
 section with the same interruption together; marked days are set apart at the left. The reference is that of the switching
 that cut them off.</p>
 {table(WORST_HEADS, rows)}"""
