@@ -4,7 +4,8 @@ from collections import Counter
 from collections.abc import Iterable
 
 from outage_tools.compare import Checked
-from outage_tools.customers import Had, Served, served_customers
+from outage_tools.customers import Served, served_customers
+from outage_tools.interruptions import Interruption
 from outage_tools.lists import Names
 from outage_tools.report.feeders import feeder_name
 from outage_tools.report.pieces import COMPUTED, Column, Part, TableRow, clock, number, numbers, table
@@ -19,9 +20,9 @@ HEADS = [
 ]
 
 
-def counts_by_cause(book: Book, had: Iterable[Had]) -> str:
+def counts_by_cause(book: Book, had: Iterable[Interruption]) -> str:
     """How many interruptions have which cause, the most first: `TREE 3, WIND 1`."""
-    counts = Counter(book.causes.get(each.run.cause, str(each.run.cause)) for each in had)
+    counts = Counter(book.causes.get(each.cause, str(each.cause)) for each in had)
     return ", ".join(f"{cause} {count}" for cause, count in sorted(counts.items(), key=lambda one: (-one[1], one[0])))
 
 
