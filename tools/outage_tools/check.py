@@ -34,6 +34,7 @@ from outage_tools.contents import (
     take_network,
     take_outage,
 )
+from outage_tools.errors import BookError
 from outage_tools.implausible.draft import Drafting
 from outage_tools.implausible.limits import add_limit_arguments, limits_of
 from outage_tools.implausible.lines import LastBook, Look
@@ -45,6 +46,7 @@ from outage_tools.implausible.told import (
     text_of,
     up_to,
 )
+from outage_tools.keys import beside, keys_for
 from outage_tools.normal_state import SOURCE, During, Island, Loop, TestedNetwork, during, moments_of
 from outage_tools.oms import causes, convert, customers, network, outages, told
 from outage_tools.oms.complaints import CHANGED, Complaint, Complaints, Notes
@@ -114,17 +116,17 @@ def unknown_ends(contents: Contents) -> Iterator[Finding]:
 
 def unknown_sections(contents: Contents) -> Iterator[Finding]:
     """Customers on what is no section, by what it is."""
-    astray: dict[str, list[str]] = defaultdict(list)
+    astray: dict[str, list[int]] = defaultdict(list)
     for customer, service in contents.customers.items():
         node = contents.nodes.get(service.section)
         if node is None or node.feeder is None:
-            astray[service.section].append(str(customer))
+            astray[service.section].append(customer)
     for section, listed in astray.items():
         what = "is a bus" if section in contents.nodes else "isn't there"
         noun = "customer" if len(listed) == 1 else "customers"
-        places = tuple(contents.places.get(("customer", name), BOOK) for name in listed)
-        text = f"{section} {what}: {noun} {names_text(tuple(listed))}"
-        yield Finding(Topic.NO_SECTION, tuple(listed), text, places)
+        places = tuple(contents.places.get(("customer", str(each)), BOOK) for each in listed)
+        names = tuple(map(contents.customer_text, listed))
+        yield Finding(Topic.NO_SECTION, names, f"{section} {what}: {noun} {names_text(names)}", places)
 
 
 def unknown_words(contents: Contents) -> Iterator[Finding]:
@@ -395,6 +397,13 @@ def implausible_in(
     """What is implausible in the exports."""
     overlapping = (row for notes in run.files for row in notes.noted.get((CHANGED, OVERLAP), ()))
     told = frozenset(int(name) for kind, name in contents.places if kind == "customer")
+    keys = run.conversion.keys
+    if last is not None and not last.is_same:
+        if (keys is None) != (last.keys is None) and args.customers:
+            raise BookError(
+                f"of the customers of {args.last} and of {args.customers} some have keys and the others none: --keys FILE"
+            )
+        last = last.by(keys) if keys is not None and last.keys is not None else last
     look = Look(
         drafting.draft(run.steps),
         limits_of(args),
@@ -402,6 +411,7 @@ def implausible_in(
         frozenset(overlapping),
         last,
         told if args.customers else None,
+        keys,
     )
     return Implausible(look, program_total_of(drafting.known))
 
@@ -411,10 +421,12 @@ def looked_at(args: argparse.Namespace, known: Known, last: LastBook | None = No
     conversion = convert.conversion_of(args, known)
     assert conversion.period is not None  # the words tell it, or the book
     contents = contents_of(args, conversion)
-    findings = findings_of(contents, conversion.period, args.meshed)
     run, drafting = Run(args, convert.conversion_of(args, known), format_of(args)), Drafting(known, conversion.period)
     for row in run.commands():
         drafting.take(row)
+    if run.meters is not None:
+        contents.take_meters(run.meters)
+    findings = findings_of(contents, conversion.period, args.meshed)
     bounds = bounds_of(contents, conversion.period, entries_of(run, known))
     implausible = None
     if all(bound.fits for bound in bounds):
@@ -430,7 +442,10 @@ def last_book(args: argparse.Namespace, known: Known) -> LastBook | None:
         return last_book_of(known, is_same=True)
     table = None if args.book else args.table
     with open_book(args.last, table, args.program) as found:
-        return last_book_of(known_of(found), is_same=False)
+        there = known_of(found)
+    named = None if beside(args.last).exists() else args.keys
+    keys = keys_for(named, args.last, there.customer_refs, bool(args.customers))
+    return last_book_of(there, is_same=False, keys=keys)
 
 
 def make_parser() -> Parser:

@@ -11,10 +11,12 @@ from typing import NamedTuple
 from outage_tools.normal_state import SOURCE, TestedDevice
 from outage_tools.oms.complaints import BadRow, Complaint, Notes
 from outage_tools.oms.conversion import MOST_NAME, Conversion
-from outage_tools.oms.customers import GREATEST_NUMBER
+from outage_tools.keys import read_key
+from outage_tools.oms.customers import read_customer
 from outage_tools.oms.fields import identifier, number, read_moment, read_zone, shown
 from outage_tools.oms.files import Export, Row
 from outage_tools.oms.known import Service
+from outage_tools.oms.services import Meters
 from outage_tools.oms.steps import MOST_STEP
 
 
@@ -120,6 +122,38 @@ class Contents:
             self.findings.append(Finding(Topic.TWICE, (name,), f"{kind} {name}: {first} and {place}", (place,)))
         return first == place
 
+    def keyed(self, key: str, service: Service) -> int | None:
+        """The number of a key's service, as the rows would have it; None where none is wanted. What is wrong with it is told where the
+        rows are written."""
+        keys = self.conversion.keys
+        if keys is None:
+            return None
+        found = keys.find(key, service, self.conversion.known.customers)
+        if found is None and not self.conversion.is_over(service.until):
+            found = keys.give(key)
+        keys.used |= {found} if found is not None else set()
+        return found
+
+    def behind_meter(self, meter: str, section: str) -> str:
+        """The section behind a customer's meter, where it is a device at the section that supplies it; else the section itself."""
+        ends = self.devices[meter].ends if meter in self.devices else ()
+        others = [end for end in ends if end != section] if section in ends else []
+        listed = [device for device in self.devices.values() if set(others) & set(device.ends)]
+        return others[0] if others and len(listed) == 1 else section
+
+    def take_meters(self, meters: Meters) -> None:
+        """The sections and devices that tickets of single services get when rows are written."""
+        for meter in meters.made:
+            ends, is_closed = meters.network.devices[meter]
+            place = Place(meters.tickets[meter].file, meters.tickets[meter].number)
+            self.nodes[ends[1]] = Node(ends[1], meters.network.nodes[ends[1]], place)
+            self.devices[meter] = TestedDevice(meter, ends, is_closed, 0, None)
+            self.places["node", ends[1]] = self.places["device", meter] = place
+
+    def customer_text(self, customer: int) -> str:
+        """A customer's number, with its key beside it where there is a table of keys."""
+        return self.conversion.keys.text(customer) if self.conversion.keys is not None else str(customer)
+
     def differs(self, kind: str, name: str, here: str, there: str, row: Row) -> None:
         """A finding where the book has something else."""
         place = Place(row.file, row.number)
@@ -197,13 +231,16 @@ def device_text(device: TestedDevice) -> str:
 
 def take_customer(contents: Contents, row: Row) -> None:
     """A customer; one whose service was over before the period doesn't come into its book."""
-    customer = number(row["customer"], GREATEST_NUMBER, "the customer")
+    keys = contents.conversion.keys
+    who: int | str = read_customer(row["customer"]) if keys is None else read_key(row["customer"])
     section = identifier(row["section"], MOST_NAME, "the section")
     if not row["since"]:
         raise BadRow("since is empty")
     since, until = contents.ends(row)
+    section = contents.behind_meter(row["meter"].upper(), section)
     service = Service(section, max(0, since or 0), until)
-    if not contents.is_first("customer", str(customer), row):
+    customer = who if isinstance(who, int) else contents.keyed(who, service)
+    if customer is None or not contents.is_first("customer", str(customer), row):
         return
     before = contents.customers.get(customer)
     if before is not None:

@@ -5,6 +5,7 @@ from collections.abc import Iterable
 from dataclasses import dataclass
 
 from outage_tools.cli import Once
+from outage_tools.keys import fingerprint
 from outage_tools.oms.files import Row, add_format_arguments, format_of, read_file
 from outage_tools.references import Source
 
@@ -54,4 +55,6 @@ def exported_rows(args: argparse.Namespace) -> ExportedRows:
     for export, columns in KEYS.items():
         for row in read_file(getattr(args, export), columns, (), format_of(args)):
             rows.setdefault(export, {}).setdefault(name_of(export, row), row)
+            if export == "customers":
+                rows[export].setdefault(fingerprint(row["customer"]), row)
     return ExportedRows(rows)

@@ -27,6 +27,7 @@ from outage_tools.days import days, months
 from outage_tools.events import DEFAULT_RULE, events, read_rule
 from outage_tools.feeders import feeders, sections
 from outage_tools.forms import Figures, Value, write_csv, write_json, write_text
+from outage_tools.keys import add_keys_argument, keys_shown
 from outage_tools.lists import read_cause_groups, read_names, read_section_groups, with_names
 from outage_tools.outages import interruptions
 from outage_tools.ranking import ranking
@@ -109,7 +110,9 @@ FIGURES: dict[str, Callable[[Checked], Figures]] = {
 
 def indices_by(found: Checked, args: Namespace) -> Figures:
     """The indices with the hours and the connected kVA that the words of the command line give."""
-    loads = further.loads_of(args.kva, found) if args.kva else None
+    loads = None
+    if args.kva:
+        loads = further.loads_of(args.kva, found, keys_shown(args.keys, args.book, found.database))
     return indices(found, args.hours or further.HOURS, loads)
 
 
@@ -193,6 +196,7 @@ def main() -> int:
     parser.add_argument(
         "--kva", metavar="FILE", help="of indices: connected kVA by section or customer, for ASIFI, ASIDI"
     )
+    add_keys_argument(parser, "with --kva by customer: the table of their keys")
     add_table_arguments(parser)
     args = parser.parse_args()
     check_words(parser, args)

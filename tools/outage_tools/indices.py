@@ -1,4 +1,4 @@
-"""Indices of IEEE Std 1366-2012 that the program doesn't print: MAIFI, CTAIDI, CELID, CEMSMI, and of load ASIFI and ASIDI.
+"""Indices of IEEE Std 1366-2012 that the program doesn't print: MAIFI, MAIFI_E, CTAIDI, CELID, CEMSMI, and of load ASIFI and ASIDI.
 
 They come from the program's interruptions, over the same customers served (S / P), with the same line between sustained
 and momentary interruptions. Each is an exact quotient, or undefined where there is nothing
@@ -7,7 +7,7 @@ to divide by.
 
 import re
 from collections import defaultdict
-from collections.abc import Iterable, Iterator, Mapping, Sequence
+from collections.abc import Iterable, Mapping, Sequence
 from dataclasses import dataclass, field
 from fractions import Fraction
 
@@ -15,6 +15,7 @@ from outage_tools.compare import Checked
 from outage_tools.counts import SETS, Counts, quotient
 from outage_tools.errors import BookError
 from outage_tools.interruptions import LONGEST_MOMENTARY, Interruption
+from outage_tools.keys import Keys
 from outage_tools.lists import heads_of, read_list
 from outage_tools.rates import counted
 from outage_tools.rows import Block, Book
@@ -23,10 +24,13 @@ from outage_tools.whole_service import whole_interruptions
 HOUR = 3_600
 HOURS = (Fraction(4), Fraction(8), Fraction(12), Fraction(24))  # of CELID, where none are asked for
 MOST_CEMSMI = 10
+LONGEST_EVENT = (
+    300  # seconds from an event's first interruption to the beginning of its last; and before a sustained one
+)
 KVA_KINDS = ("section", "customer")
 
 TERMS = (
-    "MI are customers' momentary interruptions, each counted by itself; CNS_t customers with a sustained interruption of t"
+    "MI are customers' momentary interruptions, each counted by itself; ME their momentary interruption events; CNS_t customers with a sustained interruption of t"
     " hours or more, CNT_t with t hours or more of sustained ones in all; CNM_n with n or more of either kind."
 )
 
@@ -34,11 +38,12 @@ TERMS = (
 @dataclass
 class FurtherCounts:
     """Customers with at least 1 to 10 interruptions of either kind; with a sustained one of so many hours; with so many
-    hours of sustained ones in all."""
+    hours of sustained ones in all; and customers' momentary interruption events."""
 
     with_any: list[int] = field(default_factory=lambda: [0] * MOST_CEMSMI)
     single: dict[Fraction, int] = field(default_factory=dict)
     total: dict[Fraction, int] = field(default_factory=dict)
+    events: int = 0
 
     def __add__(self, other: "FurtherCounts") -> "FurtherCounts":
         """The counts of both, whose customers are distinct."""
@@ -46,6 +51,7 @@ class FurtherCounts:
             [here + there for here, there in zip(self.with_any, other.with_any)],
             {hours: count + other.single[hours] for hours, count in self.single.items()},
             {hours: count + other.total[hours] for hours, count in self.total.items()},
+            self.events + other.events,
         )
 
 
@@ -57,10 +63,34 @@ def lengths_of(interruptions: Iterable[Interruption]) -> dict[Block, list[int]]:
     return lengths
 
 
-def further_counts(interruptions: Iterable[Interruption], hours: Sequence[Fraction]) -> FurtherCounts:
-    """The counts over some interruptions, block by block of customers of equal service."""
+def momentary_events(parts: Iterable[tuple[int, int]]) -> list[int]:
+    """The first seconds of a customer's momentary interruption events. A momentary interruption and those that begin within five
+    minutes of its beginning are one; an event isn't counted where a sustained interruption begins within five minutes of its end.
+    """
+    events: list[tuple[int, int]] = []
+    for begin, end in parts:
+        if end - begin > LONGEST_MOMENTARY:
+            while events and begin - events[-1][1] <= LONGEST_EVENT:
+                events.pop()
+        elif events and begin - events[-1][0] <= LONGEST_EVENT:
+            events[-1] = events[-1][0], end
+        else:
+            events.append((begin, end))
+    return [begin for begin, _ in events]
+
+
+def further_counts(found: Checked, set_name: str, hours: Sequence[Fraction]) -> FurtherCounts:
+    """The counts over the interruptions of a set, block by block of customers of equal service. An event counts in a set by its
+    own first second, whatever follows it.
+    """
     counts = FurtherCounts(single=dict.fromkeys(hours, 0), total=dict.fromkeys(hours, 0))
-    for block, lengths in lengths_of(interruptions).items():
+    parts: dict[Block, list[tuple[int, int]]] = defaultdict(list)
+    for each in found.interruptions:
+        parts[each.block].append((each.since, each.until))
+    for block, had in parts.items():
+        events = momentary_events(had)
+        counts.events += block.customers * sum(set_name == "all" or not found.book.is_marked(begin) for begin in events)
+    for block, lengths in lengths_of(counted(found, set_name)).items():
         sustained = [length for length in lengths if length > LONGEST_MOMENTARY]
         for n in range(min(MOST_CEMSMI, len(lengths))):
             counts.with_any[n] += block.customers
@@ -88,6 +118,7 @@ def further_indices(
     """The indices by name. `length` is P, `served_seconds` S; CTAIDI is in minutes."""
     indices = {
         "MAIFI": quotient(counts.momentary * length, served_seconds),
+        "MAIFI_E": quotient(further.events * length, served_seconds),
         "CTAIDI": quotient(counts.sustained_seconds, 60 * counts.with_some[0]),
     }
     for kind, numbers in (("S", further.single), ("T", further.total)):
@@ -100,6 +131,7 @@ def further_indices(
 
 MEANINGS = {
     "MAIFI": ("momentary interruptions per customer served, each counted by itself", "MI x P / S"),
+    "MAIFI_E": ("momentary interruption events per customer served, without those right before a sustained interruption", "ME x P / S"),
     "CTAIDI": ("minutes per customer that had a sustained interruption", "CSI / (60 x CN)"),
     "ASIFI": ("sustained interruptions of a connected kVA", "kVA interrupted x P / kVA-seconds connected"),
     "ASIDI": ("minutes of sustained interruptions of a connected kVA", "kVA-seconds interrupted x P / (60 x kVA-seconds connected)"),
@@ -161,8 +193,9 @@ def read_kva(path: str) -> tuple[str, dict[str, Fraction]]:
     return kind, found
 
 
-def loads_of(path: str, found: Checked) -> Loads:
-    """The connected loads of a book by a file; each section with customers, or each customer served, has to be in it."""
+def loads_of(path: str, found: Checked, keys: Keys | None = None) -> Loads:
+    """The connected loads of a book by a file; each section with customers, or each customer served, has to be in it. Customers are
+    called by their keys where these are given."""
     kind, kva = read_kva(path)
     book, period = found.book, found.book.period
     if kind == "section":
@@ -175,13 +208,12 @@ def loads_of(path: str, found: Checked) -> Loads:
             " WHERE since < :end AND ifnull(until, :end) > max(since, :first) ORDER BY id",
             {"first": period.first, "end": period.end},
         ).fetchall()
-        known = {str(number): number for number, in found.database.execute("SELECT id FROM customer")}
-        names = {str(number) for number, *_ in served}
-        loads = [
-            Load(section, since, until, kva[str(number)])
-            for number, section, since, until in served
-            if str(number) in kva
-        ]
+        called = dict(keys.keys) if keys is not None else {}
+        numbers = (number for number, in found.database.execute("SELECT id FROM customer"))
+        known = {called.get(number, str(number)).upper(): number for number in numbers}
+        services = [(called.get(number, str(number)).upper(), *rest) for number, *rest in served]
+        names = {name for name, *_ in services}
+        loads = [Load(section, since, until, kva[name]) for name, section, since, until in services if name in kva]
     missing = sorted(names - kva.keys(), key=lambda name: (len(name), name))
     if missing:
         raise BookError(f"{path} hasn't the {kind} {missing[0]}, and {len(missing)} of the book's in all")
@@ -226,7 +258,7 @@ def computed(
     """The further indices of a compared book, of both sets."""
     indices: dict[str, dict[str, Fraction | None]] = {}
     for name in SETS:
-        further = further_counts(counted(found, name), hours)
+        further = further_counts(found, name, hours)
         served, length = found.book.served_seconds(), found.book.period.length
         indices[name] = further_indices(found.counts[name], further, served, length)
         if loads is not None:

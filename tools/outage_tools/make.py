@@ -29,9 +29,10 @@ from outage_tools.compare import Checked, open_book
 from outage_tools.copies import log_of
 from outage_tools.errors import BookError
 from outage_tools.forms import write_text
+from outage_tools.keys import Keys
 from outage_tools.oms import convert
 from outage_tools.oms.complaints import Complaints, Notes
-from outage_tools.oms.convert import EXPORTS, Run, conversion_of
+from outage_tools.oms.convert import EXPORTS, Run, conversion_of, save_keys
 from outage_tools.oms.files import Export, format_of
 from outage_tools.oms.known import Known
 from outage_tools.oms.outages import COUNTS
@@ -142,13 +143,13 @@ def check_exports(args: argparse.Namespace) -> None:
         raise ExportsWrong
 
 
-def write_exports(args: argparse.Namespace, path: Path) -> int:
-    """Writes the rows of the exports: how many there are."""
+def write_exports(args: argparse.Namespace, path: Path) -> tuple[int, Keys | None]:
+    """Writes the rows of the exports: how many there are, and the keys of their customers."""
     run = Run(args, conversion_of(args, Known()), format_of(args))
     with writing(path), path.open("w", encoding="utf-8", newline="") as file:
         write_rows(run.commands(), file)
     run.refuse()
-    return run.told().written
+    return run.told().written, run.conversion.keys
 
 
 def import_rows(program: Program, args: argparse.Namespace, rows: Path, count: int) -> None:
@@ -205,11 +206,11 @@ def compared(program: Program, folder: Path, args: argparse.Namespace, count: in
         return page(found, Asked(args.name, args.date, agreement=agreement)) if args.report else ""
 
 
-def make_book(args: argparse.Namespace, folder: Path, progress: Progress) -> tuple[Path, str]:
-    """Makes a book in a folder: its file, whole and checked, and its page if that is asked for."""
+def make_book(args: argparse.Namespace, folder: Path, progress: Progress) -> tuple[Path, str, Keys | None]:
+    """Makes a book in a folder: its file, whole and checked, its page if that is asked for, and its customers' keys."""
     program, rows = Program(args.program, folder / "book.db"), folder / "rows.csv"
     progress.step("writes the rows")
-    count = write_exports(args, rows)
+    count, keys = write_exports(args, rows)
     progress.step(f"imports {count} rows")
     import_rows(program, args, rows, count)
     progress.step("audits the book")
@@ -217,7 +218,7 @@ def make_book(args: argparse.Namespace, folder: Path, progress: Progress) -> tup
     progress.step("compares the book")
     text = compared(program, folder, args, count)
     print(f"{count} commands, audit ok, equal to the program's table")
-    return program.book, text
+    return program.book, text, keys
 
 
 def room_for(args: argparse.Namespace) -> int:
@@ -237,13 +238,14 @@ def make(args: argparse.Namespace) -> None:
         check_exports(args)
         place = args.work_folder or place_for(room_for(args))
         folder = stack.enter_context(own_folder(place))
-        made, text = make_book(args, folder, progress)
+        made, text, keys = make_book(args, folder, progress)
         with writing(args.book), made.open("rb") as source:
             shutil.copyfileobj(source, file)
         if report is not None:
             with writing(args.report):
                 report.write(text.encode())
         check_free_book(args.book)
+        save_keys(keys)
 
 
 # The command.

@@ -9,7 +9,8 @@ come in the order of those entries, so that what was cut off at the end is cut o
 A switching that came from a ticket of an outage management system keeps its reference, so that the ticket's next export
 finds it in the new book (docs/use/IMPORTING.md).
 
-A device whose life is over by then is left out. A customer keeps its number and the beginning of its service.
+A device whose life is over by then is left out. A customer keeps its number and the beginning of its service, so a table of keys
+goes on (keys.py).
 """
 
 import re
@@ -20,6 +21,7 @@ from outage_tools.cli import Parser, add_table_arguments, print_error, run_job
 from outage_tools.commands import read_commands, read_second, row_of, write_rows
 from outage_tools.compare import Checked, open_book
 from outage_tools.errors import BookError
+from outage_tools.keys import refs_of_customers, told_by
 from outage_tools.rows import GRID, Book, Entry
 
 PREFIX = "OMS-"
@@ -58,10 +60,12 @@ def network_rows(book: Book, first: int) -> Iterator[list[str]]:
 
 
 def customer_rows(found: Checked, first: int) -> Iterator[list[str]]:
-    """The customers whose service isn't over at the first second."""
+    """The customers whose service isn't over at the first second; one that came by its key keeps its reference."""
+    refs = refs_of_customers(found.database)
     select = "SELECT id, section, since, until FROM customer WHERE until IS NULL OR until > ? ORDER BY id"
     for number, section, since, until in found.database.execute(select, (first,)):
-        yield row_of("connect", f"NEXT-CUSTOMER-{number}", number, found.book.nodes[section], since, until)
+        ref = refs[number] if told_by(refs[number]) else f"NEXT-CUSTOMER-{number}"
+        yield row_of("connect", ref, number, found.book.nodes[section], since, until)
 
 
 def ticket_refs(found: Checked, prefix: str) -> dict[int, str]:

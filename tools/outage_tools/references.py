@@ -2,12 +2,15 @@
 
 `outagebook-from-oms` makes references: `OMS-<TICKET>-<STEP>-O` for the opening of a step of a ticket and `-C` for its
 closing, with `-R<n>` behind it for a correction and `-W` for a withdrawal; `GIS-<KIND>-<NAME>`, `CIS-<CUSTOMER>` and
-`CAUSE-<CODE>` for what is in the network, the register and the list of causes.
+`CAUSE-<CODE>` for what is in the network, the register and the list of causes. A customer that came by its key has a fingerprint
+of it behind its number (keys.py).
 """
 
 import re
 from collections.abc import Iterator
 from dataclasses import dataclass
+
+from outage_tools.keys import told_by
 
 ENDS = {"O": "opening", "C": "closing"}
 LONGEST_STEP = 4
@@ -56,7 +59,9 @@ def sources_of(kind: str, ref: str, prefix: str) -> Iterator[Source]:
         yield Source("gis", name, f"{'device' if kind == 'life' else kind} {name}")
         if kind == "life" and (numbered := re.fullmatch("(.+)-[0-9]+", name)):
             yield Source("gis", numbered.group(1), f"device {numbered.group(1)}")
-    elif found := re.fullmatch("CIS-([0-9]+)(?:-.*)?", ref):
+    elif (found := re.fullmatch("CIS-([0-9]+)(?:-.*)?", ref)) and (mark := told_by(ref)):
+        yield Source("customers", mark, f"customer {found.group(1)}")
+    elif found:
         yield Source("customers", found.group(1), f"customer {found.group(1)}")
     elif found := re.fullmatch("CAUSE-([0-9]+)", ref):
         yield Source("causes", found.group(1), f"cause {found.group(1)}")

@@ -29,7 +29,6 @@ from outage_tools.counts import SETS, Counts, decimal_text, fraction_text, indic
 from outage_tools.errors import BookError
 from outage_tools.indices import HOURS, FurtherCounts, further_counts, further_indices, read_hours
 from outage_tools.parallel import over_books
-from outage_tools.rates import counted
 from outage_tools.rows import CAUSE, DAY, FEEDER
 
 
@@ -152,7 +151,7 @@ def district_of(path: str, found: Checked, hours: Sequence[Fraction] = HOURS) ->
         begun=tuple(begun),
         marks=dict(book.marks),
         counts=found.counts,
-        further={name: further_counts(counted(found, name), hours) for name in SETS},
+        further={name: further_counts(found, name, hours) for name in SETS},
         customers=array("I", (number for number, in found.database.execute("SELECT id FROM customer ORDER BY id"))),
     )
 

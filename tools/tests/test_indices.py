@@ -4,12 +4,13 @@ import unittest
 from collections import defaultdict
 from fractions import Fraction
 from pathlib import Path
+from random import Random
 
 from outage_tools import figures
 from outage_tools.compare import Checked, open_book
 from outage_tools.counts import SETS, fraction_text
 from outage_tools.errors import BookError
-from outage_tools.indices import Loads, computed, loads_of, meaning_of, read_hours
+from outage_tools.indices import Loads, computed, loads_of, meaning_of, momentary_events, read_hours
 from outage_tools.sums import add_up, district_of
 from tests import many_books, support
 from tests.many_books import books_of, district_rows, opened, parts_of, run, table_of
@@ -27,6 +28,52 @@ def lengths_of_customers(found: Checked, unmarked: bool) -> list[list[int]]:
     return [
         had[section, max(since, period.first), min(until or period.end, period.end)] for section, since, until in rows
     ]
+
+
+def parts_of_customers(found: Checked) -> list[list[tuple[int, int]]]:
+    """The interruptions of each customer, found one customer after another."""
+    customers = []
+    for section, since, until in found.database.execute("SELECT section, since, until FROM customer"):
+        parts = [
+            (max(run.since, since), min(run.until, until or run.until)) for run in found.runs if run.section == section
+        ]
+        customers.append([part for part in parts if part[0] < part[1]])
+    return customers
+
+
+def events_of(parts: list[tuple[int, int]]) -> list[int]:
+    """Where the momentary interruption events of a customer begin: those that begin within 300 seconds of the first one of theirs are one
+    group, and the group in front of a sustained one that begins at most 300 seconds after its end is none."""
+    groups: list[list[tuple[int, int]]] = []
+    for place, (begin, end) in enumerate(parts):
+        is_alone = place == 0 or parts[place - 1][1] - parts[place - 1][0] > 300
+        if end - begin <= 300:
+            if is_alone or begin > groups[-1][0][0] + 300:
+                groups.append([])
+            groups[-1].append((begin, end))
+    sustained = [begin for begin, end in parts if end - begin > 300]
+    return [group[0][0] for group in groups if not any(0 <= begin - group[-1][1] <= 300 for begin in sustained)]
+
+
+def reclosings(seed: int) -> str:
+    """A text of two sections, one behind the other, whose breakers open and close within seconds or minutes; the second day is marked."""
+    rng, rows = Random(seed), [
+        "kind,ref,f1,f2,f3,f4,f5,f6",
+        "cause,C1,1,WIND,,,,",
+        "section,N1,S1,1,,,,",
+        "section,N2,S2,2,,,,",
+    ]
+    rows += ["device,D1,B1,GRID,S1,closed,,", "device,D2,B2,S1,S2,closed,,", "mark,M1,2024-01-02,ENG,,,,"]
+    rows += ["connect,P1,1,S1,0,,,", "connect,P2,2,S2,0,,,", "connect,P3,3,S2,1704100000,1704150100,,"]
+    for device in ("B1", "B2"):
+        second, act = 1_704_067_200, "open"
+        for number in range(150):
+            second += rng.choice(
+                [rng.randint(1, 20), rng.randint(100, 320), rng.choice([299, 300, 301]), rng.randint(400, 2_000)]
+            )
+            rows.append(f"switch,{device}-{number},{device},{act},{second},1,K1,")
+            act = "close" if act == "open" else "open"
+    return "".join(f"{row}\n" for row in rows)
 
 
 def share(count: int, found: Checked) -> Fraction | None:
@@ -60,6 +107,23 @@ class MadeBooks(unittest.TestCase):
                         self.assertEqual(indices[f"CELID-T-{text}"], share(in_all, found))
         self.assertGreater(several, 3)
 
+    def test_momentary_events_customer_by_customer(self) -> None:
+        """Fewer than momentary interruptions where they lie close together, and an event has the mark of the day on which it begins."""
+        texts = [
+            (support.written(f"reclosings-{seed}.csv", reclosings(seed)), ("2024-01-01", "2", "UTC0"))
+            for seed in range(8)
+        ]
+        fewer = 0
+        for made in (*support.books(), *support.made_of("reclosings", texts)):
+            found = support.opened(made)
+            indices = computed(found, HOURS, None)
+            events = [begin for parts in parts_of_customers(found) for begin in events_of(parts)]
+            for name in SETS:
+                counted = [begin for begin in events if name == "all" or not found.book.is_marked(begin)]
+                self.assertEqual(indices[name]["MAIFI_E"], share(len(counted), found), (made.name, name))
+            fewer += indices["all"]["MAIFI_E"] != indices["all"]["MAIFI"]
+        self.assertGreater(fewer, 3)
+
     def test_equal_loads_give_saifi_and_saidi(self) -> None:
         """One kVA for each customer: ASIFI is SAIFI, and ASIDI SAIDI."""
         file = many_books.folder() / "equal.csv"
@@ -85,6 +149,30 @@ class MadeBooks(unittest.TestCase):
                 self.assertEqual(sums.further_indices(name), whole[name], seed)
 
 
+class MomentaryEvents(unittest.TestCase):
+    """Worked by hand, in seconds: recloser and lock-out sequences of one customer."""
+
+    CASES = {
+        "two reclosings that hold": ([(0, 2), (30, 45)], [0]),
+        "the second begins 300 seconds after the first": ([(0, 2), (300, 310)], [0]),
+        "the second begins 301 seconds after the first": ([(0, 2), (301, 310)], [0, 301]),
+        "a chain is measured from its first interruption": ([(0, 2), (200, 210), (400, 410)], [0, 400]),
+        "an interruption of 300 seconds is momentary": ([(0, 300)], [0]),
+        "one of 301 seconds is sustained": ([(0, 301)], []),
+        "two reclosings before a lock-out": ([(0, 2), (4, 19), (21, 5_000)], []),
+        "held for 300 seconds before the lock-out": ([(0, 2), (302, 5_000)], []),
+        "held for 301 seconds before the lock-out": ([(0, 2), (303, 5_000)], [0]),
+        "an event that ended long before the lock-out": ([(0, 2), (400, 410), (500, 5_000)], [0]),
+        "two events within 300 seconds of the lock-out": ([(0, 2), (280, 290), (301, 310), (400, 5_000)], []),
+        "behind a sustained one an event of its own": ([(0, 2), (10, 400), (450, 460), (500, 510)], [450]),
+    }
+
+    def test_by_hand(self) -> None:
+        for name, (parts, wanted) in self.CASES.items():
+            with self.subTest(name):
+                self.assertEqual((momentary_events(parts), events_of(parts)), (wanted, wanted))
+
+
 class Worked(unittest.TestCase):
     """Three customers of a fortnight: an hour without supply of all, five minutes of two."""
 
@@ -99,7 +187,13 @@ class Worked(unittest.TestCase):
 
     def test_by_hand(self) -> None:
         found = self.of()
-        wanted = {"MAIFI": Fraction(2, 3), "CTAIDI": Fraction(60), "CELID-S-1": Fraction(1), "CELID-S-2": Fraction(0)}
+        wanted = {
+            "MAIFI": Fraction(2, 3),
+            "MAIFI_E": Fraction(2, 3),
+            "CTAIDI": Fraction(60),
+            "CELID-S-1": Fraction(1),
+            "CELID-S-2": Fraction(0),
+        }
         wanted |= {
             "CELID-T-1": Fraction(1),
             "CEMSMI-1": Fraction(1),

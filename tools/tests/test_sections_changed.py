@@ -266,7 +266,7 @@ class ByHand(unittest.TestCase):
         self.assertIn("SP2", found.devices)
 
     def test_a_meter_keeps_its_section(self) -> None:
-        """Also where later tickets don't name it any more; one whose customer the book has on another section is refused."""
+        """Also where later tickets don't name it any more."""
         customers = (
             "customer,transformer,meter,since,until\n1,XF1,M1,2020-01-01,\n2,XF1,M2,2020-01-01,\n3,XF1,M3,2020-01-01,\n"
         )
@@ -274,9 +274,29 @@ class ByHand(unittest.TestCase):
         first = before("meters", *words_of(customers=customers, oms=(ticket,)))
         again = run(*words_of(customers=customers), *first.words, "--at", AT)
         self.assertEqual(again.customers, {"1": "S-XF1", "2": "S-M2", "3": "S-XF1"})
-        other = run(*words_of(customers=customers, oms=(ticket, ticket.replace("M2", "M3"))), *first.words, "--at", AT)
-        self.assertEqual(other.status, 1)
-        self.assertTrue(other.said[0].startswith("network-customers.csv: row 3: customer 3 is on S-XF1 in the book"))
+
+    def test_a_meter_that_tickets_name_later(self) -> None:
+        """Its customer stays where it is, with its meter, for outagebook-from-oms: that has a further number for a key alone."""
+        customers = "customer,transformer,meter,since,until\nK1,XF1,M/1,2020-01-01,\nK2,XF1,M/2,2020-01-01,\n"
+        table = support.folder() / "by-meters.keys.csv"
+        table.unlink(missing_ok=True)
+        folder = kept("by-meters-first", run(*words_of(customers=customers)))
+        done = rows_by(folder, "--first", PERIOD[0], "--days", PERIOD[1], "--zone", PERIOD[2], "--keys", table)
+        text, oms = done.out, ("1,M/2,2025-03-01 01:00,2025-03-01 02:00,WIND",)
+        for turn in range(2):
+            book = Before(folder, *book_of(f"by-meters-{turn}", text), text)
+            found = run(*words_of(customers=customers, oms=oms), *book.words, "--at", AT, "--keys", table)
+            self.assertEqual((found.status, [line for line in found.said if ".db" in line]), (0, []), found.err)
+            self.assertEqual(
+                [(row[1], row[-1]) for row in found.files["customers.csv"]], [("S-XF1", ""), ("S-XF1", "M-2")]
+            )
+            self.assertEqual(found.files["oms.csv"][0][1], "M-2")
+            done = rows_by(support.folder() / "cut", *book.words[2:], "--keys", table)
+            rows = [row.split(",")[0] for row in done.out.splitlines()[1:]]
+            self.assertEqual(
+                rows, [] if turn else ["section", "device", "revise", "connect", "switch", "switch"], done.err
+            )
+            text += done.out.removeprefix(exports.HEADER)
 
     def test_words(self) -> None:
         self.assertEqual(run(*words_of(), "--book", "b.db").status, 64)

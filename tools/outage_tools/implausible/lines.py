@@ -2,7 +2,7 @@
 
 from collections import defaultdict
 from collections.abc import Callable, Iterable
-from dataclasses import dataclass
+from dataclasses import dataclass, replace
 from fractions import Fraction
 from functools import cached_property
 
@@ -10,6 +10,7 @@ from outage_tools.contents import Place
 from outage_tools.counts import decimal_text
 from outage_tools.implausible.draft import Draft
 from outage_tools.implausible.limits import HOUR, Limits
+from outage_tools.keys import Keys
 from outage_tools.oms.known import Service
 from outage_tools.oms.steps import Step
 
@@ -33,18 +34,29 @@ class Line:
 @dataclass(frozen=True)
 class LastBook:
     """What is compared with an earlier book: customers, and the ends and normal position of each device. `is_same` where it is the
-    book that the rows are for."""
+    book that the rows are for. `keys` are those of its customers."""
 
     customers: dict[int, Service]
     devices: dict[str, tuple[frozenset[str], bool]]
     end: int
     is_same: bool
+    keys: Keys | None = None
+
+    def by(self, keys: Keys) -> "LastBook":
+        """The same with customers under the numbers that their keys have in another table, of several numbers the last."""
+        before = self.keys.keys if self.keys is not None else {}
+        customers = {}
+        for number, service in self.customers.items():
+            here = keys.numbers.get(before[number]) or [keys.give(before[number])]
+            customers[here[-1]] = service
+        return replace(self, customers=customers, keys=keys)
 
 
 @dataclass(frozen=True)
 class Look:
     """A draft and what it is looked at with: the limits, the second up to which tickets can have been exported, the numbers of
-    rows that overlap and were made one outage, the last book, and the customers that the register's rows tell."""
+    rows that overlap and were made one outage, the last book, the customers that the register's rows tell, and their keys.
+    """
 
     draft: Draft
     limits: Limits
@@ -52,6 +64,11 @@ class Look:
     overlapping: frozenset[int] = frozenset()
     last: LastBook | None = None
     told_customers: frozenset[int] | None = None
+    keys: Keys | None = None
+
+    def customer_text(self, customer: int) -> str:
+        """A customer's number, with its key beside it where there is a table of keys."""
+        return self.keys.text(customer) if self.keys is not None else str(customer)
 
     @cached_property
     def steps(self) -> list[Step]:

@@ -118,7 +118,7 @@ def not_told(look: Look, last: LastBook, told: frozenset[int]) -> Iterator[Line]
     if gone:
         text = (
             f"customers in service at the last book's end whom the register hasn't ({len(gone)} of {len(listed)}), with what as many"
-            f" have on average: {first_names(map(str, gone))}"
+            f" have on average: {first_names(map(look.customer_text, gone))}"
         )
         yield Line("not-told", text, look.draft.total * len(gone) // max(1, len(look.draft.customers)))
 
@@ -137,7 +137,7 @@ def moved_customers(look: Look, last: LastBook) -> Iterator[Line]:
         here, there = (out_of(look, numbers.get(each.section), service) for each in (service, last.customers[number]))
         seconds += abs(here - there)
     if moved:
-        text = f"customers on another section than in the last book ({len(moved)}): {first_names(map(str, moved))}"
+        text = f"customers on another section than in the last book ({len(moved)}): {first_names(map(look.customer_text, moved))}"
         yield Line("moved", text, seconds)
 
 

@@ -10,6 +10,7 @@ from functools import cached_property
 from outage_tools.counts import decimal_text, indices_of
 from outage_tools.implausible import clocks, days, register, steps
 from outage_tools.implausible.lines import LastBook, Line, Look, hours_text, percent, share_of, step_text
+from outage_tools.keys import Keys
 from outage_tools.oms.known import Known
 from outage_tools.oms.steps import Step
 from outage_tools.rows import CAUSE, Period
@@ -57,7 +58,7 @@ def up_to(period: Period, exported: str | None) -> int:
     return min(period.end, second)
 
 
-def last_book_of(known: Known, is_same: bool) -> LastBook | None:
+def last_book_of(known: Known, is_same: bool, keys: Keys | None = None) -> LastBook | None:
     """What an earlier book has."""
     book = known.book
     if book is None:
@@ -67,7 +68,7 @@ def last_book_of(known: Known, is_same: bool) -> LastBook | None:
         for device in book.devices
         if device.until is None
     }
-    return LastBook(known.customers, devices, book.period.end, is_same)
+    return LastBook(known.customers, devices, book.period.end, is_same, keys)
 
 
 def program_total_of(known: Known) -> int | None:

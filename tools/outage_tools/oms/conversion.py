@@ -3,6 +3,7 @@
 from dataclasses import dataclass, field
 
 from outage_tools.commands import row_of
+from outage_tools.keys import Keys
 from outage_tools.oms.complaints import BadRow, Complaints, Notes
 from outage_tools.oms.fields import read_moment
 from outage_tools.oms.files import Row
@@ -32,6 +33,7 @@ class Conversion:
     dates: tuple[str, ...] = ()
     cancelled: frozenset[str] = frozenset()  # words of a status
     ordinary: frozenset[str] = frozenset()
+    keys: Keys | None = None  # of customers, where their numbers aren't the register's own
     complaints: Complaints = field(default_factory=Complaints)
     refs: set[str] = field(default_factory=set)  # of the commands of this run
 

@@ -16,18 +16,21 @@ import re
 from collections.abc import Iterable, Iterator
 from contextlib import ExitStack
 from dataclasses import dataclass, field
+from itertools import chain, islice
 from pathlib import Path
 
 from outage_tools.cli import Once, Parser, add_table_arguments, print_error, run_job
 from outage_tools.commands import write_rows
 from outage_tools.compare import open_book
 from outage_tools.errors import BookError
+from outage_tools.keys import Keys, add_keys_argument, keys_for
 from outage_tools.oms import causes, customers, network, outages, told
 from outage_tools.oms.complaints import Notes
 from outage_tools.oms.conversion import Conversion
 from outage_tools.oms.fields import LATEST_MOMENT
 from outage_tools.oms.files import Export, Format, Row, add_format_arguments, format_of
 from outage_tools.oms.known import Known, known_of
+from outage_tools.oms.services import Meters
 from outage_tools.oms.steps import Step, StepReader, cancelled_words, ordinary_words
 from outage_tools.oms.writing import whole_file, whole_output
 from outage_tools.rows import Period, period_of
@@ -60,6 +63,7 @@ class Run:
     format: Format
     files: list[Notes] = field(default_factory=list)
     steps: list[Step] = field(default_factory=list)  # of outages, as far as they can be read
+    meters: Meters | None = None  # of single services, where the register has them
 
     def rows(self, export: str, columns: tuple[str, ...], required: tuple[str, ...]) -> tuple[Iterable[Row], Notes]:
         """The rows of an export, none where it isn't given, and the notes on them."""
@@ -78,9 +82,18 @@ class Run:
         grid = network.Network(conversion)
         if args.gis:
             yield from grid.read(*self.rows("gis", network.COLUMNS, network.REQUIRED))
-        people = customers.Customers(conversion, grid)
-        yield from people.read(*self.rows("customers", customers.COLUMNS, customers.REQUIRED))
+        register, register_notes = self.rows("customers", customers.COLUMNS, customers.REQUIRED)
+        register = iter(register)
+        begin = list(islice(register, 1))  # with it the columns are known
         rows, notes = self.rows("oms", outages.COLUMNS, outages.REQUIRED)
+        if "meter" in register_notes.columns:
+            rows = list(rows)
+            self.meters = Meters(conversion, grid)
+            self.meters.find(rows)
+        people = customers.Customers(conversion, grid, self.meters)
+        yield from people.read(chain(begin, register), register_notes)
+        if self.meters is not None:
+            self.meters.note(rows, notes)
         reader = StepReader(conversion, grid, found, args.prefix, args.crew)
         events = outages.Outages(conversion, grid, reader, args.overlaps == "join", notes)
         yield from events.commands(rows)
@@ -174,6 +187,7 @@ def add_export_arguments(parser: Parser, are_required: bool = False) -> None:
         help="a value of the column status that isn't worth a note, as closed, completed and restored aren't",
     )
     parser.add_argument("--crew", default="OMS", help="the crew if a row names none (OMS)")
+    add_keys_argument(parser, "the customers have keys of their own: the table of their numbers, which goes on")
     add_format_arguments(parser)
 
 
@@ -223,7 +237,14 @@ def conversion_of(args: argparse.Namespace, known: Known) -> Conversion:
         if period.first < 0 or period.end > LATEST_MOMENT:
             raise BookError("the period isn't between 1970 and 5138, as a book's seconds have to be")
     words = cancelled_words(args.cancelled), ordinary_words(args.ordinary)
-    return Conversion(args.zone or (period.zone if period else None), period, known, tuple(args.dates), *words)
+    keys = keys_for(args.keys, args.book, known.customer_refs, bool(args.customers))
+    return Conversion(args.zone or (period.zone if period else None), period, known, tuple(args.dates), *words, keys)
+
+
+def save_keys(keys: Keys | None) -> None:
+    """Keeps the numbers that were given out in a run, before its rows are there."""
+    if keys is not None:
+        keys.save()
 
 
 def write_report(path: Path, run: Run) -> None:
@@ -239,6 +260,7 @@ def convert(args: argparse.Namespace, known: Known) -> None:
         if args.report:
             write_report(args.report, run)
         run.refuse()
+        save_keys(run.conversion.keys)
     for line in told.lines_of_notes(run.files):
         print_error(f"note: {line}")
 

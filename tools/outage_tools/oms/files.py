@@ -29,6 +29,7 @@ DELIMITERS = {",": ",", ";": ";", "tab": "\t"}
 CONTROL = re.compile("[\0-\x08\x0b\x0c\x0e-\x1f\x7f]")
 ALIKE = 0.8  # how much alike two columns are of which one may be meant for the other
 ROWS_BETWEEN_WORDS = 20_000
+OFTEN_ALIKE = ("meter",)  # columns beside which registers have others that are called alike
 
 
 @dataclass(frozen=True)
@@ -219,7 +220,7 @@ class Export:
             if name not in found:
                 others = [other for other in found if other not in self.columns]
                 alike = difflib.get_close_matches(name, others, 1, ALIKE)
-                if alike:
+                if alike and name not in OFTEN_ALIKE:
                     yield (
                         f"it has {alike[0]!r}, which isn't read, and no column {name}: is it meant? Rename it, or give"
                         f" --column '{alike[0]}={name}'"

@@ -23,6 +23,7 @@ class Known:
     book: Book | None = None
     refs: dict[str, int | None] = field(default_factory=dict)  # each reference, with the entry that it made
     customers: dict[int, Service] = field(default_factory=dict)
+    customer_refs: dict[int, str] = field(default_factory=dict)  # under which each customer was connected
 
     def entry_of(self, ref: str) -> Entry | None:
         number = self.refs.get(ref)
@@ -48,5 +49,9 @@ def known_of(found: Checked) -> Known:
         number: Service(nodes[section], since, until)
         for number, section, since, until in found.database.execute("SELECT id, section, since, until FROM customer")
     }
-    refs = {each.ref: each.entry if each.kind == "switch" else None for each in read_commands(found.database)}
-    return Known(found.book, refs, customers)
+    known = Known(found.book, {}, customers)
+    for each in read_commands(found.database):
+        known.refs[each.ref] = each.entry if each.kind == "switch" else None
+        if each.kind == "connect":
+            known.customer_refs[int(each.fields[0])] = each.ref
+    return known

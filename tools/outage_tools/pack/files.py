@@ -12,6 +12,7 @@ from outage_tools.commands import read_commands, write_rows
 from outage_tools.compare import Checked
 from outage_tools.filings import TITLES, filing
 from outage_tools.forms import write_csv_to
+from outage_tools.keys import keys_shown
 from outage_tools.lists import read_cause_groups, read_names, read_section_groups
 from outage_tools.outages import interruptions
 from outage_tools.program import answer_of
@@ -22,6 +23,7 @@ from outage_tools.workbook import Wanted, sheets_of, write_workbook
 BOOK, TABLE, MOVES, COMMANDS = "book.db", "table.txt", "moves.csv", "commands.csv"
 INTERRUPTIONS, WORKBOOK, REPORT, README = "interruptions.csv", "workbook.xlsx", "report.html", "readme.txt"
 LISTS = ("causes", "names", "by")  # a user's lists, as the words that name them
+KEYS = "keys"  # the table of the customers' keys, of the book's customers alone
 
 
 @dataclass(frozen=True)
@@ -77,6 +79,7 @@ def asked_by(found: Checked, order: Order, lists: dict[str, Path]) -> tuple[Aske
     names = read_names(path["names"], found.book) if "names" in path else None
     causes = read_cause_groups(path["causes"], found.book) if "causes" in path else None
     sections = read_section_groups(path["by"], found.book) if "by" in path else None
+    keys = keys_shown(path[KEYS], path[KEYS], found.database) if KEYS in path else None
     asked = Asked(order.name, order.date, names, causes, sections)
     wanted = Wanted(
         name=order.name,
@@ -85,6 +88,7 @@ def asked_by(found: Checked, order: Order, lists: dict[str, Path]) -> tuple[Aske
         cause_groups=causes,
         section_groups=sections,
         least=order.above,
+        keys=keys,
         filings=order.filings,
     )
     return asked, wanted
@@ -124,6 +128,7 @@ OF_LISTS = {
     "causes": "the utility's groups of causes",
     "names": "the utility's names of feeders",
     "by": "the utility's groups of sections",
+    KEYS: "the utility's own keys of the book's customers, by their numbers",
 }
 
 

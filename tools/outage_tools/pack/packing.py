@@ -17,14 +17,16 @@ from contextlib import closing, contextmanager
 from pathlib import Path
 from typing import Any
 
-from outage_tools.cli import Parser, read_date, run_job
+from outage_tools.cli import Parser, print_error, read_date, run_job
 from outage_tools.compare import Checked, open_book
 from outage_tools.copies import copy_of
 from outage_tools.errors import BookError, Differs
 from outage_tools.filings import FILINGS
+from outage_tools.keys import add_keys_argument, keys_shown, refs_of_customers, told_by, write_keys
 from outage_tools.pack.archive import write_zip, zlib_version
 from outage_tools.pack.files import (
     BOOK,
+    KEYS,
     LISTS,
     Order,
     list_file,
@@ -91,15 +93,32 @@ def put_lists(args: Namespace, folder: Path) -> list[str]:
     return given
 
 
+def put_keys(args: Namespace, found: Checked, folder: Path) -> list[str]:
+    """The keys of the book's customers, where there is a table of them; rows of other books' customers stay out."""
+    keys = keys_shown(args.keys, args.book, found.database)
+    if keys is None:
+        if any(map(told_by, refs_of_customers(found.database).values())):
+            print_error(f"note: no table of keys: {args.pack} has the numbers of customers alone (--keys FILE)")
+        return []
+    to = list_file(folder, KEYS)
+    to.parent.mkdir(exist_ok=True)
+    with to.open("w", encoding="utf-8", newline="") as file:
+        write_keys(((number, keys.keys[number]) for number in sorted(refs_of_customers(found.database))), file)
+    return [KEYS]
+
+
 def fill(folder: Path, args: Namespace) -> None:
     """All files of a pack, the manifest last."""
     book = put_book(Path(args.book), folder)
     check_audit(book, args.program)
-    order = Order(args.name, args.date or "", list(dict.fromkeys(args.filing)), args.above, put_lists(args, folder))
+    given = put_lists(args, folder)
     made = made_by(None, args.program)
     write_program_files(book, folder, args.program)
     with open_book(str(book), None, args.program) as found:
-        write_tool_files(found, order, {name: Path(getattr(args, name)) for name in order.lists}, folder, made)
+        lists = {name: Path(getattr(args, name)) for name in given}
+        lists |= {name: list_file(folder, name) for name in put_keys(args, found, folder)}
+        order = Order(args.name, args.date or "", list(dict.fromkeys(args.filing)), args.above, list(lists))
+        write_tool_files(found, order, lists, folder, made)
         manifest = Manifest(about(found, order, made), packed(folder))
     (folder / NAME).write_text(manifest.text(), encoding="utf-8")
 
@@ -153,6 +172,7 @@ def parser_of_pack() -> Parser:
     parser.add_argument("--causes", metavar="FILE", help="a CSV of cause (its name or code) and group")
     parser.add_argument("--names", metavar="FILE", help="a CSV of feeder, name and substation")
     parser.add_argument("--by", metavar="FILE", help="a CSV of section and group")
+    add_keys_argument(parser, "customers' own keys, which the pack has beside their numbers")
     parser.add_argument("--program", metavar="PATH", default="outagebook", help="the program (outagebook on the path)")
     return parser
 

@@ -19,11 +19,13 @@ from outage_tools.cli import Parser, print_error, run_job
 from outage_tools.compare import open_book
 from outage_tools.errors import BookError, Differs
 from outage_tools.filings import FILINGS
+from outage_tools.keys import check_keys, read_keys, refs_of_customers
 from outage_tools.pack.archive import same_bytes, unpack, write_zip, zlib_version
 from outage_tools.pack.files import (
     BOOK,
     COMMANDS,
     INTERRUPTIONS,
+    KEYS,
     LISTS,
     MOVES,
     REPORT,
@@ -129,6 +131,24 @@ def compare_figures(pack: Path, table: str, found: Findings) -> None:
     look(found, REPORT, ok, lambda: compare_shown(report_shows(pack / REPORT), words))
 
 
+def compare_keys(pack: Path, manifest: Manifest, found: Findings) -> None:
+    """Each number of the table of keys is a customer of the book, and each customer has the key by which it came."""
+    if KEYS not in order_of(manifest).lists:
+        return
+    path = list_file(pack, KEYS)
+    with own_copy(pack / BOOK) as copy:
+        with closing(sqlite3.connect(f"{copy.as_uri()}?mode=ro", uri=True)) as database:
+            refs = refs_of_customers(database)
+    try:
+        keys = read_keys(path)
+        check_keys(keys, refs)
+        others = [str(number) for number in keys.keys if number not in refs]
+        ok = f"{len(keys.keys)} keys, each of a customer of the book"
+        found.say(f"lists/{path.name}", ok, f"the book has no customer {', '.join(others[:5])}" if others else None)
+    except BookError as error:
+        found.wrong.append((f"lists/{path.name}", str(error)))
+
+
 def look(found: Findings, name: str, ok: str, differs: Callable[[], str | None]) -> None:
     """Reads a file's figures; a file that can't be read is named too."""
     try:
@@ -139,7 +159,7 @@ def look(found: Findings, name: str, ok: str, differs: Callable[[], str | None])
 
 def order_of(manifest: Manifest) -> Order:
     asked = manifest.about["asked"]
-    if not set(asked["lists"]) <= set(LISTS) or not set(asked["filings"]) <= FILINGS.keys():
+    if not set(asked["lists"]) <= {*LISTS, KEYS} or not set(asked["filings"]) <= FILINGS.keys():
         raise BookError(f"{NAME} asks for lists or filings that are not known here: {asked}")
     return Order(asked["name"], asked["date"], asked["filings"], asked["above"], asked["lists"])
 
@@ -228,6 +248,7 @@ def verify(path: Path, program: str, has_replay: bool) -> Findings:
             compare_commands(pack, program, found)
             if has_replay:
                 replay(pack, manifest, program, found)
+            compare_keys(pack, manifest, found)
             compare_figures(pack, table, found)
             made_again(pack, manifest, program, found)
         found.notes.append(f"sha256 of {NAME}: {sum_of(pack / NAME)}")

@@ -5,10 +5,11 @@ at a moment, and another one begins under a further name; sections keep the name
 be said is refused by its row, or told.
 """
 
-from collections import defaultdict
-from collections.abc import Iterator
+from collections import Counter, defaultdict
+from collections.abc import Iterable, Iterator
 from dataclasses import dataclass, field, replace
 
+from outage_tools.keys import Keys
 from outage_tools.normal_state import SOURCE
 from outage_tools.oms.complaints import BadRow, Complaints
 from outage_tools.oms.conversion import MOST_NAME
@@ -46,16 +47,43 @@ class There:
     ends: dict[str, tuple[str, str]] = field(default_factory=dict)
     customers: dict[int, Service] = field(default_factory=dict)
     dates: tuple[str, ...] = ()
+    keys: Keys | None = None  # of the customers
+    supply: dict[str, str] = field(
+        default_factory=dict
+    )  # the section that supplies a service, by the one behind its meter
+
+    def take_meters(self, names: Iterable[str]) -> None:
+        """Finds the sections behind meters that are devices of the book (oms/services.py), by the names of the register's meters."""
+        count = Counter(end for ends in self.ends.values() for end in ends)
+        for name in names:
+            ends = self.ends.get(name, ())
+            behind = [end for end in ends if count[end] == 1]
+            if len(behind) == 1:
+                self.supply[behind[0]] = next(end for end in ends if end != behind[0])
+
+    def at_supply(self, service: Service) -> Service:
+        """The service at the section that supplies it, where it is behind its meter."""
+        return replace(service, section=self.supply.get(service.section, service.section))
+
+    def service_of(self, customer: str) -> Service | None:
+        """The service of a customer as the register calls it; of several under one key that of the second, else the last."""
+        if self.keys is None:
+            found = self.customers.get(int(customer)) if customer.isdecimal() else None
+            return None if found is None else self.at_supply(found)
+        numbers = self.keys.numbers.get(customer, [])
+        services = [self.at_supply(self.customers[number]) for number in numbers if number in self.customers]
+        now = [each for each in services if each.since <= self.at and (each.until is None or self.at < each.until)]
+        return next(iter([*now, *reversed(services)]), None)
 
     def text(self, second: int) -> str:
         return moment_text(second, self.zone)
 
 
-def there_of(known: Known, at: str, dates: tuple[str, ...]) -> There:
+def there_of(known: Known, at: str, dates: tuple[str, ...], keys: Keys | None = None) -> There:
     book = known.book
     assert book is not None  # it was opened
     zone = book.period.zone
-    found = There(zone, read_moment(at, "", zone, "--at", dates), customers=known.customers, dates=dates)
+    found = There(zone, read_moment(at, "", zone, "--at", dates), customers=known.customers, dates=dates, keys=keys)
     for node, name in book.nodes.items():
         if name != SOURCE:
             found.nodes[name] = book.sections[node].feeder if node in book.sections else None
@@ -76,7 +104,7 @@ def kept_names(
     in it in the earlier run."""
     votes: dict[tuple[int, str], list[int]] = defaultdict(lambda: [0, 0])
     for number, area in placed.area.items():
-        service = there.customers.get(number_of(cut.raw.customers[number].number))
+        service = there.service_of(cut.raw.customers[number].number)
         if service is not None:
             votes[area, service.section][0] += 1
     for area, edges in cut.inside().items():
@@ -95,11 +123,6 @@ def kept_names(
             found[area] = name
             taken.add(name)
     return found
-
-
-def number_of(text: str) -> int:
-    """A customer's number, or one that no customer has."""
-    return int(text) if text.isdecimal() else 0
 
 
 # Rows.
@@ -126,7 +149,8 @@ class Change:
         devices = [row for each in self.model.devices for row in self.rows_of(each)]
         told = {row.name for row in devices}
         for name in self.there.devices:
-            if name not in told and self.there.devices[name].has(self.there.at):
+            is_meter = any(end in self.there.supply for end in self.there.ends[name])
+            if name not in told and not is_meter and self.there.devices[name].has(self.there.at):
                 self.said.append(f"the device {name} isn't in the export any more, and ends")
                 devices.append(self.ended(name, name))
         self.model.devices = devices
@@ -136,7 +160,7 @@ class Change:
         """A customer stays on its section."""
         for number, section in self.model.sections.items():
             customer = self.model.raw.customers[number]
-            before = self.there.customers.get(number_of(customer.number))
+            before = self.there.service_of(customer.number)
             if before is not None and before.section != section:
                 self.complaints.add(
                     customer.spot,
@@ -156,7 +180,7 @@ class Change:
                 node = NodeRow(node.name, home)
             nodes.append(node)
         self.model.nodes = nodes
-        gone = self.there.nodes.keys() - {node.name for node in nodes}
+        gone = self.there.nodes.keys() - {node.name for node in nodes} - self.there.supply.keys()
         at = self.there.at
         for name in sorted(gone):
             services = [each for each in self.there.customers.values() if each.section == name]

@@ -18,6 +18,7 @@ from outage_tools.cli import Once, Parser, add_table_arguments, print_error, run
 from outage_tools.compare import open_book
 from outage_tools.district_files import read_rows
 from outage_tools.errors import BookError
+from outage_tools.keys import add_keys_argument, keys_for
 from outage_tools.oms.complaints import BadRow
 from outage_tools.oms.files import Row, add_format_arguments, format_of
 from outage_tools.oms.known import known_of
@@ -67,6 +68,7 @@ def make_parser() -> Parser:
         "--book", metavar="FILE", help="the book that was made of the earlier run: what changed since then"
     )
     parser.add_argument("--at", metavar="MOMENT", help="from when the network is as this export has it")
+    add_keys_argument(parser, "with --book: the table of its customers' keys")
     add_table_arguments(parser)
     parser.add_argument(
         "--since", metavar="DATE", help="from when the loads of a model are served, if no customers are given"
@@ -200,8 +202,10 @@ def make(args: argparse.Namespace, reading: Reading, said: list[str]) -> tuple[M
 
 def book_of(args: argparse.Namespace) -> There:
     with open_book(args.book, args.table, args.program) as found:
+        known = known_of(found)
+        keys = keys_for(args.keys, args.book, known.customer_refs, bool(args.customers))
         try:
-            return there_of(known_of(found), args.at, tuple(args.dates))
+            return there_of(known, args.at, tuple(args.dates), keys)
         except BadRow as error:
             raise BookError(str(error)) from None
 

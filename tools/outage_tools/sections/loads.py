@@ -3,7 +3,7 @@
 from collections.abc import Iterator
 
 from outage_tools.errors import BookError
-from outage_tools.oms.customers import GREATEST_NUMBER
+from outage_tools.keys import GREATEST_NUMBER
 from outage_tools.oms.told import ranges_of
 from outage_tools.sections.edges import Customer, Load, Raw
 from outage_tools.sections.reading import SERVICE

@@ -40,6 +40,7 @@ class Maker:
         reading, raw = self.reading, self.reading.raw
         notes = {each.file: each for each in reading.files}
         named = self.named(tickets)
+        meters = self.meters_of_book(named)
         circuits = circuits_of(raw)
         cut = cut_of(raw, self.chosen(circuits))
         of_area = area_circuits(cut, circuits, reading.complaints)
@@ -49,15 +50,15 @@ class Maker:
         refuse_without_feeder(cut, placed, of_area, reading.complaints)
         left = look_at_islands(cut, placed, {*named.edges} | self.in_book(), reading.complaints, notes)
         look_at_loops(cut, rings, of_area, self.is_meshed, reading.complaints, notes)
-        meters = meter_areas(raw, placed, named, max(cut.area.values()) + 1, reading.complaints)
+        own = meter_areas(raw, placed, named, max(cut.area.values()) + 1, reading.complaints)
         reading.refuse()
         self.note(cut, notes)
         note_differences(raw, circuits, notes)
         note_mixed(cut, circuits, of_area, notes)
         kept = kept_names(self.there, cut, placed, of_area, self.earlier.became) if self.there else {}
         numbers = numbers_of(sorted({circuit for circuit in of_area.values() if circuit}), self.earlier.feeders)
-        made = Naming(Model(raw, cut, numbers), self.earlier, of_area, left, meters, kept).named(placed)
-        made.of_row = named.of_row
+        made = Naming(Model(raw, cut, numbers), self.earlier, of_area, left, own, kept).named(placed)
+        made.of_row, made.meters = named.of_row, meters
         self.note_names(made, named, tickets, notes)
         if self.there:
             Change(self.there, made, reading.complaints, self.said).apply()
@@ -72,6 +73,20 @@ class Maker:
         for meter in self.earlier.meters:
             if meter in meters:
                 found.meters.setdefault(meter, [])
+        return found
+
+    def meters_of_book(self, named: Named) -> dict[str, str]:
+        """Against a book: the names of meters that it has as devices, or that tickets name for the first time. Their customers stay where
+        they are: outagebook-from-oms lets them go on behind the meters."""
+        if self.there is None:
+            return {}
+        labels = {each.meter for each in self.reading.raw.customers if each.meter} - {*self.earlier.meters}
+        edges = {name for listed in self.earlier.names.values() for name in listed}
+        names = {label: name for label, name in book_names(sorted(labels), {}, set()).items() if name not in edges}
+        self.there.take_meters(names.values())
+        found = {label: name for label, name in names.items() if label in named.meters or name in self.there.devices}
+        for label in found:
+            named.meters.pop(label, None)
         return found
 
     def in_book(self) -> set[str]:

@@ -55,6 +55,9 @@ class Model:
     of_row: dict[int, str] = field(default_factory=dict)  # labels, by the rows of tickets
     gone: dict[str, list[str]] = field(default_factory=dict)  # of devices that an earlier run had
     has_lives: bool = False  # rows of devices may tell a life
+    meters: dict[str, str] = field(
+        default_factory=dict
+    )  # names of meters that the book has or gets as devices, by their labels
 
     def names_of(self, label: str) -> list[str]:
         """The names of a device, or of one that was there."""

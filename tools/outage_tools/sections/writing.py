@@ -31,7 +31,8 @@ def gis_rows(model: Model) -> Iterator[tuple[object, ...]]:
 def customer_rows(model: Model, columns: list[str]) -> Iterator[tuple[object, ...]]:
     for number, customer in enumerate(model.raw.customers):
         service = dict(zip(SERVICE, customer.service))
-        yield customer.number, model.sections[number], *(service[column] for column in columns)
+        meter = [model.meters.get(customer.meter, "")] if model.meters else []
+        yield customer.number, model.sections[number], *(service[column] for column in columns), *meter
 
 
 def name_rows(model: Model, customers: Numbers) -> Iterator[tuple[object, ...]]:
@@ -50,7 +51,7 @@ def ticket_rows(model: Model, tickets: Tickets, name_in: NameIn) -> Iterator[tup
     """The rows of tickets, with devices by their names in the book; the others as they came."""
     for row in tickets.rows:
         label = model.of_row.get(row.number, "")
-        name = name_in(row, label) if model.names_of(label) else row["device"]
+        name = name_in(row, label) if model.names_of(label) else model.meters.get(label, row["device"])
         yield tuple(name if column == "device" else row[column] for column in tickets.columns)
 
 
@@ -62,7 +63,8 @@ def tables_of(
     if model.raw.has_customers:
         told = {column for notes in reading.files if notes.export == "customers" for column in notes.columns}
         columns = [column for column in SERVICE if column in told or column in ("since", "until")]
-        found["customers.csv"] = ("customer", "section", *columns), customer_rows(model, columns)
+        meter = ["meter"] if model.meters else []  # for the tool that lets customers go on behind them
+        found["customers.csv"] = ("customer", "section", *columns, *meter), customer_rows(model, columns)
     if tickets:
         found["oms.csv"] = tickets.columns, ticket_rows(model, tickets, name_in)
     found["names.csv"] = ("label", "kind", "became", "name"), name_rows(model, customers)

@@ -17,6 +17,7 @@ from outage_tools.compare import Checked, open_book
 from outage_tools.figures import add_list_arguments
 from outage_tools.filings import FILINGS, filing
 from outage_tools.forms import write_csv
+from outage_tools.keys import add_keys_argument, keys_shown
 from outage_tools.lists import read_cause_groups, read_names, read_section_groups
 from outage_tools.versions import made_by
 from outage_tools.workbook.parts import Wanted, sheets_of
@@ -46,11 +47,13 @@ def add_sheet_arguments(parser: Parser) -> None:
     parser.add_argument("--earlier", metavar="BOOK", help="the book of the year before, for the ranks of its feeders")
     parser.add_argument("--hours", nargs="+", type=further.read_hours, metavar="H", help="the hours of CELID")
     parser.add_argument("--kva", metavar="FILE", help="connected kVA by section or customer, for ASIFI and ASIDI")
+    add_keys_argument(parser, "customers' own keys, to show beside their numbers")
 
 
 def wanted_by(found: Checked, args: Namespace, earlier: Checked | None) -> Wanted:
     """What the words of the command line ask for, with the lists read."""
     book = found.book
+    keys = keys_shown(args.keys, args.book, found.database)
     return Wanted(
         name=args.name,
         date=args.date,
@@ -59,8 +62,9 @@ def wanted_by(found: Checked, args: Namespace, earlier: Checked | None) -> Wante
         section_groups=read_section_groups(args.by, book) if args.by else None,
         rule=args.ticket,
         hours=args.hours or further.HOURS,
-        loads=further.loads_of(args.kva, found) if args.kva else None,
+        loads=further.loads_of(args.kva, found, keys) if args.kva else None,
         least=args.above,
+        keys=keys,
         filings=tuple(dict.fromkeys(args.filing)),
         earlier=earlier,
     )

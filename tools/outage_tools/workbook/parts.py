@@ -12,6 +12,7 @@ from outage_tools.events import DEFAULT_RULE, Rule
 from outage_tools.filings import filing
 from outage_tools.forms import Figures
 from outage_tools.indices import HOURS, Loads
+from outage_tools.keys import Keys
 from outage_tools.lists import Groups, Names, with_names
 from outage_tools.outages import interruptions
 from outage_tools.section_groups import groups
@@ -42,6 +43,7 @@ class Wanted:
     hours: Sequence[Fraction] = HOURS
     loads: Loads | None = None
     least: int | None = None  # sustained interruptions of the customers that are listed by number
+    keys: Keys | None = None  # of customers, beside their numbers
     filings: Sequence[str] = field(default_factory=tuple)
     earlier: Checked | None = None  # the book of the year before, for the ranks of feeders
 
@@ -89,7 +91,7 @@ def further_sheets(found: Checked, wanted: Wanted) -> Iterator[Sheet]:
         made = f"outagebook-workbook BOOK --filing {name}"
         yield sheet_of(filing(found, name, wanted.cause_groups), made, "by line: the column `from`")
     if wanted.least is not None:
-        listed = named(customers_above(found, wanted.least), found, wanted)
+        listed = named(customers_above(found, wanted.least, wanted.keys), found, wanted)
         yield sheet_of(listed, f"outagebook-workbook BOOK --above {wanted.least}", TESTED)
 
 
