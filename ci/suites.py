@@ -18,7 +18,7 @@ OVER_ORACLE = (  # programs over the oracle's modules
     "tools/tests/taken_rows.py",
 )
 WAREHOUSE_PAGE = "docs/operate/WAREHOUSE.md"  # its blocks want a PostgreSQL server
-TYPED = ("oracle", "benches", "ci", "tests", "tools", "screen", "examples/ieee", "examples/network")
+TYPED = ("oracle", "benches", "ci", "tests", "tools", "screen", "packaging", "examples/ieee", "examples/network")
 SHARES = (
     "[ab]",
     "[cd]",

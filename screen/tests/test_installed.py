@@ -45,8 +45,9 @@ class Installed(support.Case):
             self.assertEqual((done.returncode, done.stdout + done.stderr), (0, ""))
         desk = self.desk()
         line = next(row for row in (units / UNITS[1]).read_text().splitlines() if row.startswith("ExecStart="))
-        line = line.replace("/var/lib/outagebook/book.db", str(desk.book)).replace("--port 8081", "--port 0")
-        started = shlex.split(line.partition("=")[2].replace("http://127.0.0.1:8080", desk.url))
+        line = line.replace("/var/lib/outagebook/book.db", str(desk.book)).replace("http://127.0.0.1:${PORT}", desk.url)
+        line = line.replace("${SCREEN_PORT}", "0").replace("${SCREEN_HOST}", "screen.example.org")
+        started = shlex.split(line.partition("=")[2])
         with subprocess.Popen(started, stdout=subprocess.PIPE, text=True) as process:
             assert process.stdout is not None
             port = process.stdout.readline().strip().rpartition(":")[2]

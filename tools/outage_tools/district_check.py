@@ -338,7 +338,7 @@ def write_check(checked: CheckedCut) -> None:
 def check(parser: Parser, args: Any) -> None:
     """The job `check`."""
     tables = tables_given(parser, args.books, args.table)
-    parts = over_books(read_part, args.books, tables, args.program, args.processes)
+    parts = over_books(read_part, args.books, tables, args.program, args.processes, args.cluster)
     books = {part.district.name: part for part in parts}
     if len(books) < len(parts):
         raise BookError("a district is one book, whose file has its name: one is given twice")

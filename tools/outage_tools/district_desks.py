@@ -4,7 +4,7 @@ import csv
 import json
 import sys
 from concurrent.futures import ThreadPoolExecutor
-from dataclasses import dataclass
+from dataclasses import asdict, dataclass
 from datetime import datetime, timezone
 from pathlib import Path
 from typing import Any
@@ -14,6 +14,7 @@ from urllib.request import urlopen
 from outage_tools.compare import open_book
 from outage_tools.district_files import Row, read_rows, write_rows
 from outage_tools.errors import BookError, Differs
+from outage_tools.parallel import over_books
 
 MOST_COMMANDS = 1_000_000
 
@@ -95,16 +96,27 @@ def tell_desks(args: Any) -> None:
         writer.writerow([desk.district, state, commands, *row])
 
 
-def compare_desk(desk: Desk, program: str) -> tuple[str, str]:
-    """The number of commands of a desk's book as of its last commit, and whether its figures are the program's."""
+@dataclass(frozen=True)
+class Comparison:
+    """What was found of a desk's book, and when: its commands as of its last commit, whether its figures are the program's."""
+
+    moment: str
+    commands: str
+    result: str
+
+
+def compare_book(path: str, table: str | None, program: str) -> Comparison:
+    """Compares a book with its program's table; a book that can't be read is a result too."""
+    commands = ""
     try:
-        with open_book(desk.book, None, program) as found:
-            (commands,) = found.database.execute("SELECT count(*) FROM cmd").fetchone()
-            return str(commands), "equal"
+        with open_book(path, table, program) as found:
+            (count,) = found.database.execute("SELECT count(*) FROM cmd").fetchone()
+            commands, result = str(count), "equal"
     except Differs as differs:
-        return "", f"differs: {differs}"
+        result = f"differs: {differs}"
     except BookError as error:
-        return "", f"error: {error}"
+        result = f"error: {error}"
+    return Comparison(datetime.now(timezone.utc).isoformat(timespec="seconds"), commands, result)
 
 
 def compare_desks(args: Any) -> None:
@@ -112,17 +124,15 @@ def compare_desks(args: Any) -> None:
     desks = read_desks(args.desks)
     path = compared_path(args)
     compared = last_compared(path)
-    results = []
     for desk in desks:
         if not desk.book:
             raise BookError(f"{args.desks} has no book of {desk.district}")
-        commands, result = compare_desk(desk, args.program)
-        moment = datetime.now(timezone.utc).isoformat(timespec="seconds")
-        compared[desk.district] = {
-            "district": desk.district, "moment": moment, "commands": commands, "result": result
-        }  # fmt: skip
-        print(f"{desk.district}: {result}{f', {commands} commands' if commands else ''}")
-        results.append(result)
+    books = [desk.book for desk in desks]
+    found = over_books(compare_book, books, [None] * len(books), args.program, args.processes, args.cluster)
+    for desk, each in zip(desks, found):
+        compared[desk.district] = {"district": desk.district, **asdict(each)}
+        print(f"{desk.district}: {each.result}{f', {each.commands} commands' if each.commands else ''}")
+    results = [each.result for each in found]
     columns = ("district", "moment", "commands", "result")
     write_rows(path, columns, ([row[column] for column in columns] for row in compared.values()))
     if any(result.startswith("differs") for result in results):

@@ -2,9 +2,9 @@
 
     outagebook-districts cut GIS [CUSTOMERS] [--oms OMS] -o FOLDER [--room N] [--as districts.csv]
                              [--delimiter D] [--encoding E]
-    outagebook-districts check TIES BOOK.. [--processes N] [--table FILE .. | --program PATH]
+    outagebook-districts check TIES BOOK.. [--processes N | --cluster ADDRESS] [--table FILE .. | --program PATH]
     outagebook-districts desks DESKS [--compared FILE] [--wait SECONDS]
-    outagebook-districts compare DESKS [--compared FILE] [--program PATH]
+    outagebook-districts compare DESKS [--compared FILE] [--processes N | --cluster ADDRESS] [--program PATH]
 
 `cut` makes of a utility's exports those of each district: what normally closed devices join stays together, and these
 parts are gathered, those with most ties between them first, while a book holds them with some room. A tie between two
@@ -23,6 +23,7 @@ from outage_tools.district_cut import ROOM, cut
 from outage_tools.district_desks import compare_desks, tell_desks
 from outage_tools.oms.decoding import ENCODINGS
 from outage_tools.oms.files import DELIMITERS
+from outage_tools.parallel import add_spread_arguments
 
 
 def arguments() -> tuple[Parser, Any]:
@@ -54,11 +55,12 @@ def arguments() -> tuple[Parser, Any]:
     checking.add_argument("books", nargs="+", metavar="BOOK", help="the books' files; a file's name is its district's")
     checking.add_argument("--table", action="append", metavar="FILE", default=[], help="the books' annual tables")
     checking.add_argument("--program", metavar="PATH", default="outagebook", help="what prints the tables")
-    checking.add_argument("--processes", type=int, metavar="N", help="how many books are read at once")
+    add_spread_arguments(checking)
     asking = job("desks", "asks each desk whether it is up, and how many commands it has")
     asking.add_argument("--wait", type=float, default=10, metavar="SECONDS", help="how long an answer may take (10)")
     comparing = job("compare", "compares each desk's book with its program's table")
     comparing.add_argument("--program", metavar="PATH", default="outagebook", help="what prints the tables")
+    add_spread_arguments(comparing)
     for one in (asking, comparing):
         one.add_argument("desks", metavar="DESKS", help="the desks: a CSV of district, url and book")
         one.add_argument("--compared", metavar="FILE", help="what was compared last (compared.csv next to DESKS)")

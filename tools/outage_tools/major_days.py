@@ -1,7 +1,8 @@
 """Major event days by the 2.5 beta method of IEEE Std 1366-2012: a threshold by the days of up to five years before.
 
     outagebook-major-days BOOK.. [--daily FILE] [--csv | --json] [--rows ENGINEER -o FOLDER]
-                          [--page FILE [--name NAME]] [--own-numbers] [--processes N] [--table FILE .. | --program PATH]
+                          [--page FILE [--name NAME]] [--own-numbers] [--processes N | --cluster ADDRESS]
+                          [--table FILE .. | --program PATH]
 
 The books are those of a year and of the years before it, of one district or of many: books of one period are added up.
 Years before that have no books may come from a list of daily SAIDI (daily.py).
@@ -348,7 +349,8 @@ def main() -> int:
         parser.error("an engineer is 1 to 16 of A-Z, 0-9, - and _")
 
     def job() -> None:
-        years = read_years(read_districts(args.books, tables, args.program, args.processes), args.own_numbers)
+        districts = read_districts(args.books, tables, args.program, args.processes, cluster=args.cluster)
+        years = read_years(districts, args.own_numbers)
         listed = read_daily(args.daily, years[-1].period.first) if args.daily else []
         answer = answer_of(years, listed)
         if args.rows:

@@ -1,20 +1,26 @@
 """Work on many books: a process for each, as many at once as processors and memory allow, with progress.
 
-Where the machine lacks what processes share (/dev/shm), this process works on one book after the other.
+Where the machine lacks what processes share (/dev/shm), this process works on one book after the other. With an address
+of a cluster its workers do (cluster.py).
 """
 
 import os
 import sys
-from collections.abc import Callable, Iterator, Sequence
+from argparse import ArgumentParser
+from collections.abc import Callable, Generator, Sequence
 from concurrent.futures import FIRST_COMPLETED, Future, ProcessPoolExecutor, wait
+from contextlib import closing
+from functools import partial
 from pathlib import Path
 from typing import TypeVar
 
 from outage_tools.cli import print_error
+from outage_tools.cluster import OnCluster, Told, results_on
 from outage_tools.errors import BookError, Differs
 
 Result = TypeVar("Result")
 Work = Callable[[str, str | None, str], Result]
+Ended = Generator[tuple[int, Told[Result]], None, None]  # a book's place, and what came of it
 
 LEAST_MEMORY = 100_000_000  # bytes that a book takes beside what grows with its file
 MEMORY_PER_BYTE = 6  # bytes of memory for each byte of a book's file and log, while it is swept
@@ -25,6 +31,15 @@ class DiffersIn(Differs):
 
     def __init__(self, path: str, text: str):
         Exception.__init__(self, f"{path}: {text}")
+
+
+def add_spread_arguments(parser: ArgumentParser) -> None:
+    """The words that say where the work is done."""
+    spread = parser.add_mutually_exclusive_group()
+    spread.add_argument("--processes", type=int, metavar="N", help="how many books are read at once")
+    spread.add_argument(
+        "--cluster", metavar="ADDRESS", help="work on a cluster of Dask's distributed, as tcp://head:8786"
+    )
 
 
 def free_memory() -> int:
@@ -52,7 +67,7 @@ def processes_for(paths: Sequence[str], asked: int | None) -> int:
     return max(1, min(len(os.sched_getaffinity(0)), len(paths), free_memory() // most))
 
 
-def told(work: Work[Result], path: str, table: str | None, program: str) -> tuple[str, Result | None, str]:
+def told(work: Work[Result], path: str, table: str | None, program: str) -> Told[Result]:
     """A book's result, or what was wrong with it, in a form that passes between processes."""
     try:
         return "", work(path, table, program), ""
@@ -70,14 +85,10 @@ def failure(path: str, kind: str, text: str) -> Exception:
 
 def one_after_another(
     work: Work[Result], paths: Sequence[str], tables: Sequence[str | None], program: str
-) -> Iterator[Result]:
-    """The books' results in their order, in this process."""
-    for done, (path, table) in enumerate(zip(paths, tables), 1):
-        kind, result, text = told(work, path, table, program)
-        if result is None:
-            raise failure(path, kind, text)
-        yield result
-        tell_progress(done, len(paths), path)
+) -> Ended[Result]:
+    """What came of each book, in this process."""
+    for place, (path, table) in enumerate(zip(paths, tables)):
+        yield place, told(work, path, table, program)
 
 
 def new_pool(count: int) -> ProcessPoolExecutor | None:
@@ -88,30 +99,45 @@ def new_pool(count: int) -> ProcessPoolExecutor | None:
         return None
 
 
-def over_books(
-    work: Work[Result], paths: Sequence[str], tables: Sequence[str | None], program: str, processes: int | None
-) -> list[Result]:
-    """The results of all books in their order. The first that fails ends the work, and its path is told."""
-    pool = new_pool(processes_for(paths, processes))
-    if pool is None:
-        return [*one_after_another(work, paths, tables, program)]
-    results: dict[int, Result] = {}
-    with pool:
-        going: dict["Future[tuple[str, Result | None, str]]", int] = {
-            pool.submit(told, work, path, table, program): place
-            for place, (path, table) in enumerate(zip(paths, tables))
-        }
-        waiting = set(going)
+def side_by_side(
+    pool: ProcessPoolExecutor, work: Work[Result], paths: Sequence[str], tables: Sequence[str | None], program: str
+) -> Ended[Result]:
+    """What came of each book, as they end."""
+    going: dict["Future[Told[Result]]", int] = {
+        pool.submit(told, work, path, table, program): place for place, (path, table) in enumerate(zip(paths, tables))
+    }
+    waiting = set(going)
+    try:
         while waiting:
             ended, waiting = wait(waiting, return_when=FIRST_COMPLETED)
             for future in ended:
-                place = going[future]
-                kind, result, text = future.result()
-                if result is None:
-                    pool.shutdown(wait=True, cancel_futures=True)
-                    raise failure(paths[place], kind, text)
-                results[place] = result
-                tell_progress(len(results), len(paths), paths[place])
+                yield going[future], future.result()
+    finally:
+        pool.shutdown(wait=True, cancel_futures=True)
+
+
+def over_books(
+    work: Work[Result],
+    paths: Sequence[str],
+    tables: Sequence[str | None],
+    program: str,
+    processes: int | None,
+    cluster: str | None = None,
+) -> list[Result]:
+    """The results of all books in their order. The first that fails ends the work, and its path is told."""
+    if cluster is not None:
+        ended = results_on(cluster, OnCluster(partial(told, work), paths, tables, program))
+    elif pool := new_pool(processes_for(paths, processes)):
+        ended = side_by_side(pool, work, paths, tables, program)
+    else:
+        ended = one_after_another(work, paths, tables, program)
+    results: dict[int, Result] = {}
+    with closing(ended):
+        for place, (kind, result, text) in ended:
+            if result is None:
+                raise failure(paths[place], kind, text)
+            results[place] = result
+            tell_progress(len(results), len(paths), paths[place])
     return [results[place] for place in range(len(paths))]
 
 

@@ -1,7 +1,7 @@
 """Many books of one period added up: the annual table of a utility whose districts have a book each.
 
     outagebook-sum BOOK.. [--json | --districts | --further | -o FILE [--name NAME]] [--own-numbers]
-                   [--hours H ..] [--processes N] [--table FILE .. | --program PATH]
+                   [--hours H ..] [--processes N | --cluster ADDRESS] [--table FILE .. | --program PATH]
 
 Each book is compared with its program's table first. Then seconds in service, customer-seconds, interruptions and
 customers are added up, and each index is its quotient of the sums: nothing is rounded. Books that don't belong together
@@ -28,7 +28,7 @@ from outage_tools.compare import Checked, open_book
 from outage_tools.counts import SETS, Counts, decimal_text, fraction_text, indices_of, quotient, quotient_text
 from outage_tools.errors import BookError
 from outage_tools.indices import HOURS, FurtherCounts, further_counts, further_indices, read_hours
-from outage_tools.parallel import over_books
+from outage_tools.parallel import add_spread_arguments, over_books
 from outage_tools.rows import CAUSE, DAY, FEEDER
 
 
@@ -168,9 +168,10 @@ def read_districts(
     program: str,
     processes: int | None = None,
     hours: Sequence[Fraction] = HOURS,
+    cluster: str | None = None,
 ) -> list[District]:
     """The parts of many books, in the order given."""
-    return over_books(partial(read_district, hours=hours), paths, tables, program, processes)
+    return over_books(partial(read_district, hours=hours), paths, tables, program, processes, cluster)
 
 
 # Adding up.
@@ -392,7 +393,7 @@ def add_book_arguments(parser: Parser) -> None:
     parser.add_argument(
         "--own-numbers", action="store_true", help="each district has customers' numbers of its own: none is compared"
     )
-    parser.add_argument("--processes", type=int, metavar="N", help="how many books are read at once")
+    add_spread_arguments(parser)
     parser.add_argument(
         "--table", action="append", metavar="FILE", default=[], help="a book's annual table, once for each book"
     )
@@ -428,7 +429,8 @@ def main() -> int:
         parser.error("--processes is 1 or more")
 
     def job() -> None:
-        sums = add_up(read_districts(args.books, tables, args.program, args.processes, args.hours), args.own_numbers)
+        districts = read_districts(args.books, tables, args.program, args.processes, args.hours, args.cluster)
+        sums = add_up(districts, args.own_numbers)
         if args.output:
             from outage_tools.many_pages import sums_page
             from outage_tools.report import write

@@ -1,7 +1,7 @@
 """A warehouse in PostgreSQL: compared books copied for reading, with views of exact indices over all of them.
 
     outagebook-warehouse create [--reader ROLE] [--dsn DSN]
-    outagebook-warehouse load BOOK.. [--processes N] [--table FILE .. | --program PATH] [--dsn DSN]
+    outagebook-warehouse load BOOK.. [--processes N | --cluster ADDRESS] [--table FILE .. | --program PATH] [--dsn DSN]
     outagebook-warehouse compare BOOK.. | list | drop DISTRICT --first DAY [--dsn DSN]
 
 A warehouse is never a source: each book is compared with its program's table, written in one transaction, and what the
@@ -28,7 +28,7 @@ from outage_tools.counts import SETS
 from outage_tools.days import unmarked_seconds
 from outage_tools.errors import BookError, Differs
 from outage_tools.interruptions import joined
-from outage_tools.parallel import over_books
+from outage_tools.parallel import add_spread_arguments, over_books
 from outage_tools.rates import counted
 from outage_tools.rows import CAUSE, DAY, FEEDER, Book
 from outage_tools.sums import PeriodKey, name_of, tables_given
@@ -469,7 +469,8 @@ def drop(dsn: str, district: str, first: str) -> None:
 def each_book(work: Callable[..., str], parser: Parser, args: Any) -> None:
     """Loads or compares books, side by side; what was done to each is printed in their order."""
     tables = tables_given(parser, args.books, args.table)
-    for line in over_books(partial(work, dsn=args.dsn), args.books, tables, args.program, args.processes):
+    work_there = partial(work, dsn=args.dsn)
+    for line in over_books(work_there, args.books, tables, args.program, args.processes, args.cluster):
         print(line)
 
 
@@ -487,7 +488,7 @@ def arguments() -> tuple[Parser, Any]:
     for name, text in (("load", "loads books that changed"), ("compare", "compares books with the warehouse")):
         one = job(name, text)
         one.add_argument("books", nargs="+", metavar="BOOK", help="the books' files; a file's name is its district's")
-        one.add_argument("--processes", type=int, metavar="N", help="how many books are read at once")
+        add_spread_arguments(one)
         one.add_argument("--table", action="append", metavar="FILE", default=[], help="the books' annual tables")
         one.add_argument("--program", metavar="PATH", default="outagebook", help="what prints the tables")
     job("list", "lists the books")

@@ -1,6 +1,6 @@
 """Years side by side: the figures of several books, each compared with the program first.
 
-    python3 tools/years.py 2023.db 2024.db .. [--csv] [--program PATH]
+    python3 tools/years.py 2023.db 2024.db .. [--csv] [--processes N | --cluster ADDRESS] [--program PATH]
     python3 tools/years.py 2023.db 2024.db --table 2023.txt --table 2024.txt
 
 A line for each figure: the period, P, S, W and the customers served, both sets of indices and counts, the
@@ -14,6 +14,7 @@ import sys
 from outage_tools.cli import Parser, run_job
 from outage_tools.compare import Checked, open_book
 from outage_tools.counts import SETS, decimal_text, index_text, indices_of, quotient
+from outage_tools.parallel import add_spread_arguments, over_books
 from outage_tools.rows import CAUSE, FEEDER
 
 
@@ -43,6 +44,12 @@ def lines_of(found: Checked) -> dict[str, str]:
     return lines
 
 
+def read_lines(path: str, table: str | None, program: str) -> dict[str, str]:
+    """The figures of the book in a file, compared first."""
+    with open_book(path, table, program) as found:
+        return lines_of(found)
+
+
 def side_by_side(books: list[dict[str, str]]) -> list[list[str]]:
     """The figures that any of the books has, with each book's; causes and feeders after what all have."""
     names = [name for name in books[0] if not name.startswith(("cause ", "feeder "))]
@@ -64,15 +71,14 @@ def main() -> int:
         "--table", action="append", metavar="FILE", default=[], help="a book's annual table, once for each"
     )
     parser.add_argument("--program", metavar="PATH", default="outagebook", help="the program that prints the tables")
+    add_spread_arguments(parser)
     args = parser.parse_args()
     if args.table and len(args.table) != len(args.books):
         parser.error("--table is given once for each book, in their order, or not at all")
 
     def job() -> None:
-        books = []
-        for place, path in enumerate(args.books):
-            with open_book(path, args.table[place] if args.table else None, args.program) as found:
-                books.append(lines_of(found))
+        tables = args.table or [None] * len(args.books)
+        books = over_books(read_lines, args.books, tables, args.program, args.processes, args.cluster)
         rows = [["figure", *args.books], *side_by_side(books)]
         if args.csv:
             csv.writer(sys.stdout, lineterminator="\n").writerows(rows)

@@ -685,10 +685,11 @@ class Units(unittest.TestCase):
                 "Description=The outage book's screen of %i",
                 "After=outagebook@%i.service",
                 "Wants=outagebook@%i.service",
+                "Environment=SCREEN_HOST=%i.screen.example.org",
                 "EnvironmentFile=/etc/outagebook/%i.env",
                 "ExecStart=/usr/local/bin/outagebook-screen --book /var/lib/outagebook/%i.db --port ${SCREEN_PORT}"
                 " --desk http://127.0.0.1:${PORT} --program /usr/local/bin/outagebook --proxy 127.0.0.1 --senders %i-"
-                " --host %i.screen.example.org",
+                " --host ${SCREEN_HOST}",
             ],
         )
 

@@ -178,6 +178,29 @@ class Install(unittest.TestCase):
         self.assertFalse((support.folder() / "none").exists())
 
 
+class ManualPages(unittest.TestCase):
+    """The manual pages that Debian's packages have of the tools and the screen."""
+
+    def test_each_command_has_a_page_with_its_options(self) -> None:
+        prefix, pages = support.folder() / "prefix-of-manual", support.folder() / "manual"
+        pages.mkdir()
+        self.assertEqual(install(prefix, PROGRAM=own_program()).returncode, 0)
+        writer = [sys.executable, str(PACKAGING / "manual_pages.py"), str(prefix / "bin"), str(pages)]
+        done = subprocess.run(writer, capture_output=True, text=True, check=False)
+        self.assertEqual((done.returncode, done.stderr), (0, ""))
+        commands = sorted((prefix / "bin").glob("outagebook-*"))
+        self.assertEqual(sorted(page.stem for page in pages.iterdir()), [command.name for command in commands])
+        for command in commands:
+            words = [sys.executable, str(command), "--help"]
+            told = subprocess.run(words, capture_output=True, text=True, check=True).stdout
+            page = (pages / f"{command.name}.1").read_text().replace("\\-", "-")
+            self.assertIn(f".SH NAME\n{command.name} - ", page)
+            self.assertLessEqual(set(re.findall(r"--[a-z][a-z-]*", told)), set(re.findall(r"--[a-z][a-z-]*", page)))
+            self.assertFalse([line for line in page.splitlines() if line.startswith("'")])
+        for job in ("cut", "check", "desks", "compare"):
+            self.assertIn(f".SS {job}\n", (pages / "outagebook-districts.1").read_text())
+
+
 def dead_links(folder: Path) -> list[str]:
     """The links of a folder's pages that lead nowhere, each with its page, by the check of the repository's own pages."""
     command = [sys.executable, str(CHECK_PAGES), str(folder), "--links"]
