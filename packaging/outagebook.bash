@@ -14,7 +14,8 @@ _outagebook() {
         '') options='total init import export interruptions table audit migrate serve help --help --version' ;;
         total) options='--help' ;;
         init) options='--book --first --days --zone --help' ;;
-        import|export|interruptions) options='--book --help' ;;
+        import) options='--book --whole --help' ;;
+        export|interruptions) options='--book --help' ;;
         table|audit|migrate) options='--book --help' ;;
         serve) options='--book --port --streams --help' ;;
         help) options='total init import export interruptions table audit migrate serve' ;;

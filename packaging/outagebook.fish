@@ -19,5 +19,6 @@ complete -c outagebook -n '__fish_seen_subcommand_from init' -l first -x -d 'The
 complete -c outagebook -n '__fish_seen_subcommand_from init' -l days -x -d 'How many days the period has'
 complete -c outagebook -n '__fish_seen_subcommand_from init' -l zone -x -d 'The time zone, as a POSIX rule'
 complete -c outagebook -n '__fish_seen_subcommand_from import export interruptions' -F
+complete -c outagebook -n '__fish_seen_subcommand_from import' -l whole -d 'Add all rows of the file, or none'
 complete -c outagebook -n '__fish_seen_subcommand_from serve' -l port -x -d 'The port to listen at'
 complete -c outagebook -n '__fish_seen_subcommand_from serve' -l streams -x -d 'How many streams to serve before it ends'

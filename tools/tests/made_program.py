@@ -51,7 +51,7 @@ def main() -> None:
         make(book, HEADER)
         print("created")
     elif job == "import":
-        make(book, Path(words[0]).read_text())
+        make(book, Path(words[-1]).read_text())
         with closing(sqlite3.connect(book)) as database:
             print(f"added {database.execute('SELECT count(*) FROM cmd').fetchone()[0]} again 0")
     elif job == "table":

@@ -55,6 +55,8 @@ pub enum Job {
         book: Word,
         /// The file of the commands.
         input: Word,
+        /// Whether all of them are applied, or none.
+        whole: bool,
     },
     /// Writes the changes of amounts that a book's commands made into a CSV file.
     Export {

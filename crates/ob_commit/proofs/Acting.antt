@@ -61,7 +61,7 @@ module _ {S : Type 0} (g : Ghosts S) (p : PostedAmounts) (act : Act) (begun one 
 
     module _ (y : ⊤) (command : AddsCommand g act one two (Ok y)) where
       -- the first two made this
-      both_made : HasCleanDisk (state g two.now) → IsTrue (state g begun.now).in_transaction → Makes (state g begun.now) (state g two.now) (NeedsRow act.resolved.now) (with_command act)
+      pub both_made : HasCleanDisk (state g two.now) → IsTrue (state g begun.now).in_transaction → Makes (state g begun.now) (state g two.now) (NeedsRow act.resolved.now) (with_command act)
       both_made late inside =
           let early : HasCleanDisk (state g one.now) = omega (arith, command.silent.survives.clean, late) in
           let first = rows.makes early inside in

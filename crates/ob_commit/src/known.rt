@@ -71,7 +71,7 @@ fn known_rows<S: Alter>(conn: &mut Connection<S>, reference: &[u8]) -> Result<Ve
 }
 
 /// Reads the result from the rows with a reference.
-fn tell(rows: &[Row], reference: &[u8], body: &[u8]) -> Result<Known, Stop>
+pub(crate) fn tell(rows: &[Row], reference: &[u8], body: &[u8]) -> Result<Known, Stop>
     ensures told { IfOk result (IsUnder rows.now reference.now body.now) }
     ensures fault { IfErr result (λ stop. stop ≡ store_fault) }
     ensures known { AreOfOne rows.now reference.now → IsOk result }

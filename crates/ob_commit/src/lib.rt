@@ -16,6 +16,7 @@ mod known;
 mod moves;
 mod stored;
 mod upgrade;
+mod within;
 mod writing;
 
 pub use act::{Act, commit_act};
@@ -23,3 +24,4 @@ pub use creation::commit_new;
 pub use known::{Known, look_up};
 pub use stored::stored_moves;
 pub use upgrade::{NewBody, commit_upgrade};
+pub use within::{look_up_within, write_act};

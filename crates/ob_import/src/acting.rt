@@ -36,7 +36,7 @@ pub(crate) fn act_row<S: Alter, T: Timeline>(
 }
 
 /// Reads the reference and the command in a row.
-fn command_in(row: &Row) -> Result<(Ref, Command), Refusal>
+pub(crate) fn command_in(row: &Row) -> Result<(Ref, Command), Refusal>
     ensures { IsRow row.now result }
 {
     match row.fields() {

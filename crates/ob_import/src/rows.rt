@@ -61,7 +61,11 @@ pub(crate) fn import_rows<R: Read, S: Alter, T: Timeline, P: Progress>(
 
 /// Reads the next row into `row`, and returns whether there was one. `Fault::Input` after the last
 /// row if the text isn't whole.
-fn take_row<R: Read>(rows: &mut RowReader<R>, row: &mut Row, whole: bool) -> Result<bool, Fault>
+pub(crate) fn take_row<R: Read>(
+    rows: &mut RowReader<R>,
+    row: &mut Row,
+    whole: bool,
+) -> Result<bool, Fault>
     ensures takes { IfOk result (λ found. TakesRow (rows_left R.remaining rows.old)
         (rows_left R.remaining rows.new) found row.new) }
     ensures ended { result ≡ Ok false → whole ≡ true }

@@ -103,12 +103,12 @@ pub fn import_with_progress<R: Read, S: Alter, T: Timeline, P: Progress>(
 }
 
 /// The number of line ends in a text.
-fn lines_of(text: &[u8]) -> u64 {
+pub(crate) fn lines_of(text: &[u8]) -> u64 {
     text.iter().filter(|byte| **byte == b'\n').count() as u64
 }
 
 /// The fault of an import without a book.
-fn fault_without_book() -> ImportFault
+pub(crate) fn fault_without_book() -> ImportFault
     ensures { Err result ≡ no_book }
 {
     ImportFault {

@@ -1,7 +1,7 @@
 //! The calls of a `Keeper` that the tests use, and the trials that use them.
 use crate::jobs::calls::{
-    Ask, Told, audits, exports, imports, lacks_export, lacks_import, lacks_list, lacks_table,
-    lists, makes, migrates, prints, serves,
+    Ask, Told, audits, exports, imports, imports_whole, lacks_export, lacks_import, lacks_list,
+    lacks_table, lists, makes, migrates, prints, serves,
 };
 use crate::sinks::Shelf;
 use ob_harness::{Sink, Source, WHOLE};
@@ -171,6 +171,7 @@ impl<S: Alter, T: Timeline> Office for Keeper<S, T> {
         match ask {
             Ask::Make(days) => makes(self, &("2024-01-01", days, "UTC0"), writer),
             Ask::Import(text) => imports(alloc, self, text, writer),
+            Ask::ImportWhole(text) => imports_whole(alloc, self, text, writer),
             Ask::Export(room) => exports(alloc, self, room, writer),
             Ask::Interruptions(room) => lists(alloc, self, room, writer),
             Ask::Print => prints(self, writer),

@@ -1,7 +1,9 @@
-//! An import into a book whose store may stop, and the rows that are then kept.
+//! An import into a book whose store may stop, row by row or as a whole, and the rows that are then
+//! kept.
 use crate::office::Office;
 use crate::sending::{BEFORE, failed, take_rows};
 use crate::tasks::Kept;
+use ob_net::Stop;
 use std::alloc::Global;
 use std::process::Abort;
 
@@ -52,6 +54,40 @@ pub fn holds_rows<O: Office>(rt: &impl Abort, alloc: Global, office: &mut O, kep
     assert!(rt; total == total_of(accepted));
     let found = take_rows(alloc, office, ROWS);
     assert!(rt; found.rows == 3 && found.stop == None);
+    assert!(rt; office.shows() == Some((IMPORTED, total_of(IMPORTED))));
+    Kept::all(accepted)
+}
+
+/// Loads the book and imports all rows or none. If the store fails, the book has all of them or
+/// none.
+pub fn import_all<O: Office>(rt: &impl Abort, alloc: Global, office: &mut O) -> Kept {
+    if let Err(stop) = office.loads() {
+        return failed(rt, office, stop, Kept::all(BEFORE));
+    }
+    match office.takes_whole(alloc, ROWS) {
+        Ok(report) => {
+            assert!(rt; report.added == 3 && report.again == 0 && report.stopped == None);
+            Kept::all(IMPORTED)
+        }
+        Err(found) => {
+            let kept = Kept {
+                least: BEFORE,
+                most: IMPORTED,
+            };
+            failed(rt, office, Stop::Fault(found.fault), kept)
+        }
+    }
+}
+
+/// Loads the book, which has all rows or none, and nothing in between. Then it takes them.
+pub fn holds_all<O: Office>(rt: &impl Abort, alloc: Global, office: &mut O, kept: Kept) -> Kept {
+    assert!(rt; office.loads().is_ok());
+    let (accepted, total) = office.shows().unwrap_or((0, 0));
+    assert!(rt; kept.allows(accepted));
+    assert!(rt; accepted == BEFORE || accepted == IMPORTED);
+    assert!(rt; total == total_of(accepted));
+    let found = office.takes_whole(alloc, ROWS);
+    assert!(rt; found.is_ok());
     assert!(rt; office.shows() == Some((IMPORTED, total_of(IMPORTED))));
     Kept::all(accepted)
 }

@@ -1,7 +1,7 @@
 //! The calls of a `Keeper` over files that may stop, and the trials that use them.
 use ob_command::{Command, read_row};
 use ob_desk::serve_stream;
-use ob_import::{ImportFault, ImportReport, import_text};
+use ob_import::{ImportFault, ImportReport, Silent, import_text, import_whole};
 use ob_index::{Indices, Which};
 use ob_net::{Fault, Ref, Refusal, Stop, Watched};
 use ob_post::{Dim, Moved, Postings};
@@ -65,6 +65,9 @@ pub trait Office {
 
     /// Imports a text.
     fn takes(&mut self, alloc: Global, text: &[u8]) -> Report;
+
+    /// Imports all of a text or nothing.
+    fn takes_whole(&mut self, alloc: Global, text: &[u8]) -> Report;
 
     /// Serves a stream of these bytes. Answers the written bytes, and the fault that ended the
     /// stream.
@@ -161,6 +164,10 @@ impl<S: Alter, T: Timeline> Office for Keeper<S, T> {
 
     fn takes(&mut self, alloc: Global, text: &[u8]) -> Report {
         import_text(alloc, text, self)
+    }
+
+    fn takes_whole(&mut self, alloc: Global, text: &[u8]) -> Report {
+        import_whole(alloc, &mut Watched::new(text), self, &mut Silent)
     }
 
     fn serves(&mut self, alloc: Global, bytes: &[u8]) -> (Vec<u8>, Option<Stop>) {

@@ -11,6 +11,7 @@ use std::process::Abort;
 fn held(task: Task, kept: Option<Kept>) -> Task {
     match task {
         Task::Make => Task::HoldNew(kept.unwrap_or(Kept::all(0))),
+        Task::ImportWhole => Task::HoldAll(kept.unwrap_or(Kept::all(BEFORE))),
         Task::Import => Task::HoldRows(kept.unwrap_or(Kept::all(BEFORE))),
         Task::Migrate => Task::HoldUpgraded(kept.unwrap_or(Kept::all(0))),
         Task::Send(last) => Task::Hold(kept.unwrap_or(Kept::all(BEFORE)), last),
@@ -113,6 +114,11 @@ fn a_request_over_files_that_stop(rt: HostRuntime) {
 #[test]
 fn an_import_over_files_that_stop(rt: HostRuntime) {
     stopped_over(&rt, rt.alloc(), OUTAGE, Task::Import, IMPORTED);
+}
+
+#[test]
+fn a_whole_import_over_files_that_stop(rt: HostRuntime) {
+    stopped_over(&rt, rt.alloc(), OUTAGE, Task::ImportWhole, IMPORTED);
 }
 
 #[test]

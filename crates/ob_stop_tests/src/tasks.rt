@@ -1,6 +1,6 @@
 //! The tasks of a `Keeper` over files that may stop, from their opening to their closing.
 use crate::creations::{holds_new, make};
-use crate::importing::{holds_rows, import};
+use crate::importing::{holds_all, holds_rows, import, import_all};
 use crate::office::{Office, Trial, over};
 use crate::scripts::Last;
 use crate::sending::{BEFORE, holds, is_made, send};
@@ -58,6 +58,10 @@ pub enum Task {
     Import,
     /// Load the book with the rows that are kept, and import the others.
     HoldRows(Kept),
+    /// Load the book and import all rows into it, or none.
+    ImportWhole,
+    /// Load the book with all rows or none, and import them.
+    HoldAll(Kept),
     /// Create a book.
     Make,
     /// Load the new book that is kept, or create it, and go on.
@@ -146,6 +150,8 @@ fn done<O: Office>(rt: &impl Abort, alloc: Global, office: &mut O, task: Task) -
         Task::Serve => serve(rt, alloc, office),
         Task::Import => import(rt, alloc, office),
         Task::HoldRows(kept) => holds_rows(rt, alloc, office, kept),
+        Task::ImportWhole => import_all(rt, alloc, office),
+        Task::HoldAll(kept) => holds_all(rt, alloc, office, kept),
         Task::Make => make(rt, office),
         Task::HoldNew(kept) => holds_new(rt, office, kept),
         Task::Old => Kept::all(u32::from(is_made(office))),

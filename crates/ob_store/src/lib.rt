@@ -20,6 +20,7 @@ mod off;
 mod reply;
 mod stored;
 mod version;
+mod whole;
 
 pub use crash::{crash_law, left_law, load_law, old_crash_law};
 pub use keeper::Keeper;
@@ -27,3 +28,4 @@ pub use moving::MoveSink;
 pub use ob_compare::{Progress, Silent, Work};
 pub use reply::{Moves, Reply};
 pub use sqlite::Alter;
+pub use whole::Halted;

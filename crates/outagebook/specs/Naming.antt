@@ -14,7 +14,8 @@ module _ {B E : Type 0} where
   abbrev pub DoesJob : Job → List ℕ → Task InputFile OutputFile (Server B E) → Type 0
   DoesJob (jobs.Init book first days zone) on (tasks.Init start count rule) =
       (on ≡ book) × (start.now ≡ first) × (count ≡ days) × (rule.now ≡ zone)
-  DoesJob (jobs.Import book input) on (tasks.Import file) = (on ≡ book) × (file.path.now ≡ input)
+  DoesJob (jobs.Import book input false) on (tasks.Import file) = (on ≡ book) × (file.path.now ≡ input)
+  DoesJob (jobs.Import book input true) on (tasks.ImportWhole file) = (on ≡ book) × (file.path.now ≡ input)
   DoesJob (jobs.Export book output) on (tasks.Export file) = (on ≡ book) × (file.path.now ≡ output)
   DoesJob (jobs.Interruptions book output) on (tasks.Interruptions file) = (on ≡ book) × (file.path.now ≡ output)
   DoesJob (jobs.Table book) on tasks.Table = on ≡ book

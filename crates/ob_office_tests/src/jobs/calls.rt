@@ -7,8 +7,9 @@ use ob_harness::texts::OUTAGE;
 use ob_harness::{FULL, Sink, Source, WHOLE};
 use ob_import::import_with_progress;
 use ob_jobs::{
-    Silent, audit_book, export_from_book, import_into_book, interruptions_from_book, make_book,
-    migrate_book, print_book, run_export, run_interruptions, run_table, serve_book,
+    Silent, audit_book, export_from_book, import_into_book, import_whole_into_book,
+    interruptions_from_book, make_book, migrate_book, print_book, run_export, run_interruptions,
+    run_table, serve_book,
 };
 use ob_store::Keeper;
 use ob_stream::Watched;
@@ -23,6 +24,8 @@ pub enum Ask {
     Make(u16),
     /// Imports this text, or an input that can't be opened.
     Import(Option<&'static str>),
+    /// Imports all of this text or nothing, or an input that can't be opened.
+    ImportWhole(Option<&'static str>),
     /// Writes the moved amounts into an output with this much room, or one that can't be made.
     Export(Option<usize>),
     /// Writes the interruptions into an output with this much room, or one that can't be made.
@@ -86,6 +89,18 @@ pub fn imports<S: Alter, T: Timeline>(
 ) -> Told {
     let mut input = Input { text, tried: false };
     let run = import_into_book(alloc, keeper, &mut input, &mut Silent, &mut writer);
+    ended_as(&run, writer, input.tried)
+}
+
+/// Imports all of a text or nothing, or an input that can't be opened.
+pub fn imports_whole<S: Alter, T: Timeline>(
+    alloc: Global,
+    keeper: &mut Keeper<S, T>,
+    text: Option<&'static str>,
+    mut writer: Watched<Sink>,
+) -> Told {
+    let mut input = Input { text, tried: false };
+    let run = import_whole_into_book(alloc, keeper, &mut input, &mut Silent, &mut writer);
     ended_as(&run, writer, input.tried)
 }
 

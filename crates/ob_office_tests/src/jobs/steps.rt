@@ -73,6 +73,49 @@ fn jobs_on_a_book(rt: HostRuntime) -> Result<(), Stop> {
     are_done(&rt, rt.alloc(), BOOK)
 }
 
+// Whole imports: a refused row leaves nothing of its text in the book, also where that is a later
+// row or the header; all rows of a text are then added, and the same text adds nothing more.
+const WHOLE_TEXTS: &[Step] = &[
+    MADE,
+    Step::Do(Ask::ImportWhole(None), 1, INPUT, ""),
+    Step::Do(
+        Ask::ImportWhole(Some(ONE_NAME_TWICE)),
+        2,
+        Some((Stop::Refused(Refusal::NameTaken), Some(4))),
+        "added 0 again 0\n",
+    ),
+    Step::Do(
+        Ask::ImportWhole(Some("kind,ref\n")),
+        2,
+        Some((Stop::Refused(Refusal::BadField(0)), Some(0))),
+        "added 0 again 0\n",
+    ),
+    Step::Do(Ask::Export(Some(4_000)), 0, None, "rows 0\n"),
+    SOUND,
+    Step::Do(
+        Ask::ImportWhole(Some(OUTAGE)),
+        0,
+        None,
+        "added 25 again 0\n",
+    ),
+    SOUND,
+    PRINTED,
+    Step::Do(
+        Ask::ImportWhole(Some(OUTAGE)),
+        0,
+        None,
+        "added 0 again 25\n",
+    ),
+    Step::Do(Ask::Import(Some(OUTAGE)), 0, None, "added 0 again 25\n"),
+    Step::Do(Ask::Export(Some(4_000)), 0, None, "rows 9\n"),
+    SOUND,
+];
+
+#[test]
+fn whole_imports_into_a_book(rt: HostRuntime) -> Result<(), Stop> {
+    are_done(&rt, rt.alloc(), WHOLE_TEXTS)
+}
+
 // A book of version 1: if an amount in its tables was changed by other means, it is no book, and is
 // left as it is; otherwise it is migrated to one of version 2 with the same commands and amounts.
 const MIGRATED: &[Step] = &[
