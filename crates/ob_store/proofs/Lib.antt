@@ -30,3 +30,4 @@ pub mod GoingOn
 pub mod OldCrashing
 pub mod KeeperLaws
 pub mod Restarting
+pub mod Faults
