@@ -32,3 +32,4 @@ pub mod KeeperLaws
 pub mod Restarting
 pub mod Within
 pub mod Committing
+pub mod Faults

@@ -1,6 +1,6 @@
 //! Applies a command under a reference: the reply, and the state of the store and of the book
 //! afterwards.
-ghost use Rattle.std.specs.Prelude.{◌≡◌, ◌≢◌, ◌≤◌, false, None, IfErr, OnErr};
+ghost use Rattle.std.specs.Prelude.{◌≡◌, ◌≢◌, ◌≤◌, ⊤, false, None, IfErr, OnErr};
 ghost use Rattle.sqlite.specs.Held.{state};
 ghost use Rattle.sqlite.specs.State.{HasCleanDisk, Survives};
 ghost use Rattle.ob_book.specs.Acts.{ActState, number_of};
@@ -34,6 +34,7 @@ pub(crate) fn act_on<S: Alter, T: Timeline>(
     ensures faults { IfErr result IsActStop }
     ensures clean { HasCleanDisk (state S.Store conn.new) → HasCleanDisk (state S.Store conn.old) }
     ensures limit { conn.new.step_limit ≡ conn.old.step_limit }
+    ensures survives { Survives (state S.Store conn.old) (state S.Store conn.new) (λ _. ⊤) }
     ensures book { OnErr result (book.new.state ≡ book.old.state) }
     ensures acts { HasCleanDisk (state S.Store conn.new) → (b : ActState)
         → KeepsBook (state S.Store conn.old) b → book.old.state ≡ b.book
@@ -79,6 +80,7 @@ fn accept<S: Alter, T: Timeline>(
     ensures faults { IfErr result IsActStop }
     ensures clean { HasCleanDisk (state S.Store conn.new) → HasCleanDisk (state S.Store conn.old) }
     ensures limit { conn.new.step_limit ≡ conn.old.step_limit }
+    ensures survives { Survives (state S.Store conn.old) (state S.Store conn.new) (λ _. ⊤) }
     ensures book { OnErr result (book.new.state ≡ book.old.state) }
     ensures acts { HasCleanDisk (state S.Store conn.new) → (b : ActState)
         → KeepsBook (state S.Store conn.old) b → book.old.state ≡ b.book

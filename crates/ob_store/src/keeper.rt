@@ -56,7 +56,7 @@ fn settle<T: Timeline>(book: &mut Option<Book<T>>, stop: Stop)
 }
 
 impl<S: Alter, T: Timeline> Keeper<S, T> {
-    ghost use Rattle.std.specs.Prelude.{◌≡◌, ◌↔◌, ◌≤◌, length, false, None, Some, Err, IsErr, IsSome, IsTrue, IfErr, IfOk, OnOk};
+    ghost use Rattle.std.specs.Prelude.{◌≡◌, ◌↔◌, ◌≤◌, ⊤, length, false, None, Some, Err, IsErr, IsSome, IsTrue, IfErr, IfOk, OnOk};
     ghost use Rattle.ob_base.specs.declared.stop.Refusal.{Refusal as ARefusal};
     ghost use Rattle.ob_base.specs.declared.stop.Fault.{Fault as AFault};
     ghost use Rattle.ob_base.specs.declared.stop.Stop.{Stop as AStop};
@@ -138,6 +138,9 @@ impl<S: Alter, T: Timeline> Keeper<S, T> {
         ensures clean { HasCleanDisk (state S.Store self.new.conn)
             → HasCleanDisk (state S.Store self.old.conn) }
         ensures limit { self.new.conn.step_limit ≡ self.old.conn.step_limit }
+        // no fault of the disk is forgotten, and only a fault shuts the store
+        ensures survives { Survives (state S.Store self.old.conn) (state S.Store self.new.conn)
+            (λ _. ⊤) }
         ensures acted { HasCleanDisk (state S.Store self.new.conn) → (b : ActState)
             → Ties S.Store self.old b → IsSome self.old.book
             → Acted S.Store self.old self.new b (under reference command) result }
