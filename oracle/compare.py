@@ -2,7 +2,7 @@
 
     python3 oracle/compare.py [--seeds N] [--program FILE]
 
-For each text: `init`, `import`, and the same import again; `table`, `export`, `interruptions`, `audit`; every row of the
+For each text: `init`, `import`, and the same import again; `table`, `indices`, `export`, `interruptions`, `audit`; every row of the
 eleven tables; and of books that aren't large `total`, of the network, the customers and the entries that the book has in the end. Then
 the same books served (compare_streams.py), and books of version 1 (compare_old.py). All that is printed, the messages
 and the statuses have to be the model's. It ends with status 1 at the first difference; the text is then
@@ -24,6 +24,7 @@ from interruptions import interruption_lines
 from make_commands import old_text_of, period_of, text_of
 from model import Book, first_difference, total_of
 from over_program import CREATED, PROGRAM, ROOT, SOUND, Difference, OneBook, PeriodWords, Said, first_of
+from selections import BY, index_lines
 from state import Period
 
 # What benches/ and tests/ take from here.
@@ -34,6 +35,7 @@ EXAMPLES = ROOT / "examples/fortnight"
 FORTNIGHT = ("2025-03-24", 14, "CET-1CEST,M3.5.0,M10.5.0/3")
 FEEDER = ROOT / "examples/ieee/feeder.csv"  # the worked example of IEEE Std 1366
 FEEDER_YEAR = ("2025-01-01", 365, "EST5EDT,M3.2.0,M11.1.0")
+BOUNDS = [300, 60]  # seconds of the longest momentary interruption, for `indices`
 MOST_COUNTED = 100_000_000  # customers times seconds of a book for `total`, which counts every one of them
 
 
@@ -56,7 +58,12 @@ def wanted_of(book: Book, data: bytes) -> dict[str, object]:
         "interruptions": (f"rows {len(rows) - 1}\n", "", 0),
         "rows": lines[2],
         "audit": SOUND,
+        **{f"indices {by} {over}": (index_text(book, by, over), "", 0) for by in BY for over in BOUNDS},
     }
+
+
+def index_text(book: Book, by: str, over: int) -> str:
+    return "".join(f"{line}\n" for line in index_lines(book, by, over))
 
 
 def found_of(book: OneBook, period: PeriodWords, data: bytes) -> dict[str, object]:
@@ -71,6 +78,9 @@ def found_of(book: OneBook, period: PeriodWords, data: bytes) -> dict[str, objec
     found["interruptions"] = book.run("interruptions", str(rows))
     found["rows"] = rows.read_text() if rows.exists() else None
     found["audit"] = book.run("audit")
+    for by in BY:
+        for over in BOUNDS:
+            found[f"indices {by} {over}"] = book.run("indices", "--by", by, "--over", str(over))
     return found
 
 

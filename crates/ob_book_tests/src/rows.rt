@@ -36,8 +36,8 @@ impl RowSink for Shelf {
     }
 }
 
-// The book of a period after the commands of a script.
-fn book_of(alloc: Global, span: Span, scripts: &[&str]) -> Result<Book<Windowed>, Fail> {
+/// The book of a period after the commands of scripts.
+pub fn book_of(alloc: Global, span: Span, scripts: &[&str]) -> Result<Book<Windowed>, Fail> {
     let period = Period::from_text(alloc, span.0, span.1, span.2)?;
     let mut book = Book::new(alloc, period)?;
     for script in scripts {

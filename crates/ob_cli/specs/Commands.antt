@@ -79,6 +79,26 @@ export_app = with_rule (over_book (codes "export")) (word_rule (codes "OUTPUT"))
 abbrev pub interruptions_app : App
 interruptions_app = with_rule (over_book (codes "interruptions")) (word_rule (codes "OUTPUT"))
 
+-- what indices are listed by where the words name nothing: the whole book
+abbrev pub default_by : Text
+default_by = codes "whole"
+
+-- the seconds of the longest momentary interruption where the words name none
+abbrev pub default_over : Text
+default_over = codes "300"
+
+-- `--by WORD`
+abbrev pub by_rule : Rule
+by_rule = record (option_rule (codes "by")) { defaults = default_by ∷ [] }
+
+-- `--over SECONDS`, from 1 to 99,999
+abbrev pub over_rule : Rule
+over_rule = record (option_rule (codes "over")) { defaults = default_over ∷ []; parser = Some (parser.Unsigned 1 99999) }
+
+-- `indices --book FILE --by WORD --over SECONDS`
+abbrev pub indices_app : App
+indices_app = with_rules (over_book (codes "indices")) (by_rule ∷ over_rule ∷ [])
+
 -- how many streams are served where the words name no number: none is no bound
 abbrev pub default_streams : Text
 default_streams = codes "0"
@@ -101,4 +121,4 @@ with_subcommands a (s ∷ rest) = with_subcommands (with_subcommand a s.top) res
 -- the command line of the program
 abbrev pub outagebook_app : App
 outagebook_app = with_subcommands bare_app
-    (total_app ∷ init_app ∷ import_app ∷ export_app ∷ interruptions_app ∷ table_app ∷ audit_app ∷ migrate_app ∷ serve_app ∷ [])
+    (total_app ∷ init_app ∷ import_app ∷ export_app ∷ interruptions_app ∷ table_app ∷ indices_app ∷ audit_app ∷ migrate_app ∷ serve_app ∷ [])

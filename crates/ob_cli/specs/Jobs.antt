@@ -7,8 +7,10 @@ use Rattle.clap.specs.declared.error.kind.ErrorKind.TheVariants as kind
 use Rattle.ob_base.specs.declared.stop.Fault.TheVariants.{OutOfMemory}
 use Rattle.ob_cli.specs.Commands.{outagebook_app}
 use Rattle.ob_cli.specs.Values.{flag_given, with_count, with_number, with_word}
+use Rattle.ob_cli.specs.declared.job.By.{By}
+use Rattle.ob_cli.specs.declared.job.By.TheVariants.{Whole, Feeder, Month, Cause, Section}
 use Rattle.ob_cli.specs.declared.job.Job.{Job}
-use Rattle.ob_cli.specs.declared.job.Job.TheVariants.{Total, Init, Import, Export, Interruptions, Table, Audit, Migrate, Serve}
+use Rattle.ob_cli.specs.declared.job.Job.TheVariants.{Total, Init, Import, Export, Interruptions, Table, Indices, Audit, Migrate, Serve}
 use Rattle.ob_cli.specs.declared.read.WrongWords.{WrongWords}
 use Rattle.ob_cli.specs.declared.read.WrongWords.TheVariants as wrong
 
@@ -32,6 +34,24 @@ interruptions_job rows =
 abbrev pub table_job : List Row → Option Job
 table_job rows = with_word (codes "book") rows (λ book. Some (Table book))
 
+-- what a word lists indices by
+abbrev pub by_named : Text → Option By
+by_named word =
+    if bytes_eq word (codes "whole") then Some Whole
+    else if bytes_eq word (codes "feeder") then Some Feeder
+    else if bytes_eq word (codes "month") then Some Month
+    else if bytes_eq word (codes "cause") then Some Cause
+    else if bytes_eq word (codes "section") then Some Section
+    else None
+
+-- what indices are to be listed by
+abbrev pub by_given : List Row → Option By
+by_given rows = with_word (codes "by") rows by_named
+
+abbrev pub indices_job : List Row → Option Job
+indices_job rows = with_word (codes "book") rows (λ book. option_and_then (λ by. with_count (codes "over") rows (λ over.
+    Some (Indices book by over))) (by_given rows))
+
 abbrev pub audit_job : List Row → Option Job
 audit_job rows = with_word (codes "book") rows (λ book. Some (Audit book))
 
@@ -51,6 +71,7 @@ job_named p =
     else if bytes_eq p.0 (codes "export") then export_job p.1
     else if bytes_eq p.0 (codes "interruptions") then interruptions_job p.1
     else if bytes_eq p.0 (codes "table") then table_job p.1
+    else if bytes_eq p.0 (codes "indices") then indices_job p.1
     else if bytes_eq p.0 (codes "audit") then audit_job p.1
     else if bytes_eq p.0 (codes "migrate") then migrate_job p.1
     else if bytes_eq p.0 (codes "serve") then serve_job p.1

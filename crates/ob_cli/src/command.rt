@@ -2,8 +2,8 @@
 ghost use Rattle.std.specs.Prelude.{◌≡◌, IfOk, codes, false};
 ghost use Rattle.clap.specs.Words.{app_of, rule_of};
 ghost use Rattle.clap.specs.declared.builder.command.Command.TheViews.{out-Command};
-ghost use Rattle.ob_cli.specs.Commands.{audit_app, bare_app, book_rule, count_rule, default_streams, export_app};
-ghost use Rattle.ob_cli.specs.Commands.{import_app, init_app, interruptions_app, migrate_app, number_rule, outagebook_app, over_book, required_rule};
+ghost use Rattle.ob_cli.specs.Commands.{audit_app, bare_app, book_rule, by_rule, count_rule, default_streams, export_app};
+ghost use Rattle.ob_cli.specs.Commands.{import_app, indices_app, init_app, interruptions_app, migrate_app, number_rule, outagebook_app, over_book, over_rule, required_rule};
 ghost use Rattle.ob_cli.specs.Commands.{flag_rule, serve_app, table_app, total_app, word_rule};
 
 use clap::{Arg, ArgAction, Command, value_parser};
@@ -59,6 +59,29 @@ fn flag_option<'a>(alloc: Global, name: &'a str, help: &'a str) -> Arg<'a>
         .long(name)
         .action(ArgAction::SetTrue)
         .help(help)
+}
+
+fn by_option<'a>(alloc: Global) -> Arg<'a>
+    ensures rule { rule_of result ≡ by_rule }
+    ensures local { result.global ≡ false }
+{
+    Arg::new(alloc, "by")
+        .long("by")
+        .value_name("WORD")
+        .default_value("whole")
+        .help("A line for each: feeder, month, cause, section, or whole for the whole book")
+}
+
+fn over_option<'a>(alloc: Global) -> Arg<'a>
+    ensures rule { rule_of result ≡ over_rule }
+    ensures local { result.global ≡ false }
+{
+    Arg::new(alloc, "over")
+        .long("over")
+        .value_name("SECONDS")
+        .default_value("300")
+        .value_parser(value_parser!(u64).range(1..=99_999))
+        .help("The longest momentary interruption; a longer one is sustained")
 }
 
 /// A positional argument that names a file.
@@ -141,6 +164,19 @@ fn table_command<'a>(alloc: Global) -> Result<Command<'a>, AllocError>
     book_command(alloc, "table", "Prints the annual table of a book")
 }
 
+fn indices_command<'a>(alloc: Global) -> Result<Command<'a>, AllocError>
+    ensures app { IfOk result (λ c. app_of c ≡ indices_app) }
+    ensures local { IfOk result (λ c. (out-Command c).has_globals ≡ false) }
+{
+    book_command(
+        alloc,
+        "indices",
+        "Prints the indices of a book by feeder, month, cause or section as CSV",
+    )?
+    .arg(by_option(alloc))?
+    .arg(over_option(alloc))
+}
+
 fn audit_command<'a>(alloc: Global) -> Result<Command<'a>, AllocError>
     ensures app { IfOk result (λ c. app_of c ≡ audit_app) }
     ensures local { IfOk result (λ c. (out-Command c).has_globals ≡ false) }
@@ -203,6 +239,7 @@ pub(crate) fn outagebook_command<'a>(alloc: Global) -> Result<Command<'a>, Alloc
         .subcommand(export_command(alloc)?)?
         .subcommand(interruptions_command(alloc)?)?
         .subcommand(table_command(alloc)?)?
+        .subcommand(indices_command(alloc)?)?
         .subcommand(audit_command(alloc)?)?
         .subcommand(migrate_command(alloc)?)?
         .subcommand(serve_command(alloc)?)

@@ -32,6 +32,21 @@ impl Word {
     }
 }
 
+/// What indices are listed by.
+#[derive(Clone, Copy)]
+pub enum By {
+    /// The whole book, as one line.
+    Whole,
+    /// Home feeders.
+    Feeder,
+    /// Calendar months.
+    Month,
+    /// Causes.
+    Cause,
+    /// Sections.
+    Section,
+}
+
 /// The job that the program is to do: one variant for each subcommand, with the values of its
 /// options.
 #[derive(Drop)]
@@ -76,6 +91,15 @@ pub enum Job {
     Table {
         /// The book's file.
         book: Word,
+    },
+    /// Prints the indices of a book by feeder, month, cause or section.
+    Indices {
+        /// The book's file.
+        book: Word,
+        /// What they are listed by.
+        by: By,
+        /// The seconds of the longest momentary interruption, from 1 to 99,999.
+        over: u64,
     },
     /// Compares the tables of a book with its commands.
     Audit {

@@ -15,6 +15,6 @@ mod read;
 mod status;
 
 pub use complaint::complaint_of;
-pub use job::{Job, Word};
+pub use job::{By, Job, Word};
 pub use read::{WrongWords, read_words};
 pub use status::{Unfinished, status_of_run};

@@ -1,10 +1,10 @@
 //! Reads the job from the matches of a subcommand.
 ghost use Rattle.std.specs.Prelude.{◌≡◌, IfOk, option_and_then};
 ghost use Rattle.clap.specs.Words.{first_of, found_of, rows_of, subcommand_rows_of};
-ghost use Rattle.ob_cli.specs.Jobs.{audit_job, export_job, import_job, init_job, interruptions_job, job_named, migrate_job, serve_job, table_job};
+ghost use Rattle.ob_cli.specs.Jobs.{audit_job, by_given, by_named as by_of_word, export_job, import_job, indices_job, init_job, interruptions_job, job_named, migrate_job, serve_job, table_job};
 ghost use Rattle.ob_cli.specs.Values.{count_given, flag_given, number_given};
 
-use crate::job::{Job, Word};
+use crate::job::{By, Job, Word};
 use clap::ArgMatches;
 use std::alloc::{AllocError, Global};
 
@@ -101,6 +101,41 @@ fn table_from(alloc: Global, matches: &ArgMatches<'_>) -> Result<Option<Job>, Al
     }
 }
 
+/// Returns what indices are to be listed by; `None` if the word is none of those.
+fn by_of(matches: &ArgMatches<'_>) -> Option<By>
+    ensures { result ≡ by_given (rows_of (found_of matches.now)) }
+{
+    match matches.get_str("by") {
+        Some(word) => by_named(word),
+        None => None,
+    }
+}
+
+fn by_named(word: &str) -> Option<By>
+    ensures { result ≡ by_of_word word.now }
+{
+    match word {
+        "whole" => Some(By::Whole),
+        "feeder" => Some(By::Feeder),
+        "month" => Some(By::Month),
+        "cause" => Some(By::Cause),
+        "section" => Some(By::Section),
+        _ => None,
+    }
+}
+
+fn indices_from(alloc: Global, matches: &ArgMatches<'_>) -> Result<Option<Job>, AllocError>
+    ensures { IfOk result (λ r. r ≡ indices_job (rows_of (found_of matches.now))) }
+{
+    let book = word_of(alloc, matches, "book")?;
+    let by = by_of(matches);
+    let over = count_of(matches, "over");
+    match (book, by, over) {
+        (Some(book), Some(by), Some(over)) => Ok(Some(Job::Indices { book, by, over })),
+        _ => Ok(None),
+    }
+}
+
 fn audit_from(alloc: Global, matches: &ArgMatches<'_>) -> Result<Option<Job>, AllocError>
     ensures { IfOk result (λ r. r ≡ audit_job (rows_of (found_of matches.now))) }
 {
@@ -145,6 +180,7 @@ fn job_from(alloc: Global, name: &str, matches: &ArgMatches<'_>) -> Result<Optio
         "export" => export_from(alloc, matches),
         "interruptions" => interruptions_from(alloc, matches),
         "table" => table_from(alloc, matches),
+        "indices" => indices_from(alloc, matches),
         "audit" => audit_from(alloc, matches),
         "migrate" => migrate_from(alloc, matches),
         "serve" => serve_from(alloc, matches),

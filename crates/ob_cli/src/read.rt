@@ -47,6 +47,10 @@ impl From<AllocError> for WrongWords {
     }
 }
 
+// The only words that `clap` matches and that name no job.
+const UNNAMED: &str =
+    "error: --by has to be one of: whole, feeder, month, cause, section\n";
+
 fn reason_of(alloc: Global, error: &Error) -> WrongWords
     ensures { IsReasonOf (kind_of error.now) result }
 {
@@ -79,6 +83,6 @@ pub fn read_words(alloc: Global, words: &[&str]) -> Result<Job, WrongWords>
     };
     match matched_job(alloc, &matches)? {
         Some(job) => Ok(job),
-        None => Err(WrongWords::Wrong(String::from_str(alloc, "no subcommand")?)),
+        None => Err(WrongWords::Wrong(String::from_str(alloc, UNNAMED)?)),
     }
 }

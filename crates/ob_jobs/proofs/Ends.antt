@@ -10,7 +10,9 @@ use Rattle.ob_book.specs.Views.{annual_table_of_book}
 use Rattle.ob_store.specs.Keepers.{Ghosts, KeeperValue}
 use Rattle.ob_stream.specs.declared.watched.Watched.{Watched}
 use Rattle.ob_jobs.specs.Making.{MakingOf}
-use Rattle.ob_jobs.specs.Tabling.{HasTable, table_text}
+use Rattle.ob_selections.specs.IndexText.{indices_text_of}
+use Rattle.ob_selections.specs.declared.selection.By.{By}
+use Rattle.ob_jobs.specs.Tabling.{HasTable, indices_text, table_text}
 use Rattle.ob_jobs.specs.Telling.{Tells, Told, WritesNothing}
 
 module _ {X W : Type 0} (Works : Result X Stop → Type 0) (text : X → List ℕ) (contents : W → Option (List ℕ)) (old new : Watched W) where
@@ -59,4 +61,13 @@ pub printed : {W : Type 0} (contents : W → Option (List ℕ)) (old new : Watch
 printed {W} contents old new held b text r is same told =
     subst (λ (h : Option BookState). Tells (HasTable h) (λ _. table_text h) contents old new r) (sym is)
     (ended (HasTable (Some b)) (annual_table_of_book b) contents old new r refl
+    (subst (λ (t : List ℕ). Told contents old new t r) same told))
+
+-- its indices
+pub listed : {W : Type 0} (by : By) (longest : ℕ) (contents : W → Option (List ℕ)) (old new : Watched W) (held : Option BookState) (b : BookState)
+    (text : List ℕ) (r : Result ⊤ Stop) → held ≡ Some b → text ≡ indices_text_of b by longest → Told contents old new text r
+    → Tells (HasTable held) (λ _. indices_text by longest held) contents old new r
+listed {W} by longest contents old new held b text r is same told =
+    subst (λ (h : Option BookState). Tells (HasTable h) (λ _. indices_text by longest h) contents old new r) (sym is)
+    (ended (HasTable (Some b)) (indices_text_of b by longest) contents old new r refl
     (subst (λ (t : List ℕ). Told contents old new t r) same told))

@@ -6,6 +6,7 @@ use Rattle.ob_stream.specs.declared.watched.Watched.{Watched}
 use Rattle.ob_store.specs.Keepers.{Ghosts, KeeperValue}
 use Rattle.ob_import.specs.declared.report.ImportReport.{ImportReport}
 use Rattle.ob_cli.specs.declared.status.Unfinished.{Unfinished}
+use Rattle.ob_selections.specs.declared.selection.By.{By}
 use Rattle.ob_jobs.specs.After.{TellsAfter}
 use Rattle.ob_jobs.specs.Endings.{audit_end, import_end, job_end}
 use Rattle.ob_jobs.specs.Importing.{TellsExport, TellsImport, TellsWhole}
@@ -14,7 +15,7 @@ use Rattle.ob_jobs.specs.Loads.{AuditOf, LoadsThen, OpensThen, TakesThen}
 use Rattle.ob_jobs.specs.Making.{MakingOf}
 use Rattle.ob_jobs.specs.Migrations.{MigrationOf}
 use Rattle.ob_jobs.specs.Rows.{TellsRows}
-use Rattle.ob_jobs.specs.Tabling.{HasTable, table_text}
+use Rattle.ob_jobs.specs.Tabling.{HasTable, indices_text, table_text}
 use Rattle.ob_jobs.specs.Telling.{Tells}
 
 -- the job was done or stopped so, and the run ends as this says of it
@@ -46,6 +47,14 @@ module _ {S : Type 0} (g : Ghosts S) where
   PrintsBook contents old new before after result =
       EndsAs job_end (LoadsThen g
       (λ mid done. (new ≡ mid) × Tells (HasTable mid.book) (λ _. table_text mid.book) contents before after done)
+      (after ≡ before) old new) result
+
+  -- the book is loaded, and its indices are printed
+  abbrev pub PrintsIndices : {W : Type 0} → (W → Option (List ℕ)) → By → ℕ → KeeperValue S → KeeperValue S → Watched W → Watched W
+      → Result ⊤ Unfinished → Type 0
+  PrintsIndices contents by longest old new before after result =
+      EndsAs job_end (LoadsThen g
+      (λ mid done. (new ≡ mid) × Tells (HasTable mid.book) (λ _. indices_text by longest mid.book) contents before after done)
       (after ≡ before) old new) result
 
   -- the book is loaded, then the input is opened, and then imported

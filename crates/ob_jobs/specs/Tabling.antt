@@ -5,11 +5,18 @@ use Rattle.ob_base.specs.declared.stop.Stop.TheVariants.{Refused, Fault}
 use Rattle.ob_base.specs.declared.stop.Fault.TheVariants.{OutOfMemory, Reopen}
 use Rattle.ob_state.specs.State.{BookState}
 use Rattle.ob_book.specs.Views.{annual_table_of_book}
+use Rattle.ob_selections.specs.IndexText.{indices_text_of}
+use Rattle.ob_selections.specs.declared.selection.By.{By}
 
 -- the annual table of a book, where there is one
 abbrev pub table_text : Option BookState → List ℕ
 table_text None = []
 table_text (Some book) = annual_table_of_book book
+
+-- the indices of a book by feeder, month, cause or section, where there is one
+abbrev pub indices_text : By → ℕ → Option BookState → List ℕ
+indices_text by longest None = []
+indices_text by longest (Some book) = indices_text_of book by longest
 
 -- there is a book to print the table of; or why none is printed
 abbrev pub HasTable : Option BookState → Result ⊤ Stop → Type 0

@@ -4,7 +4,7 @@ use Rattle.ob_base.specs.declared.stop.Stop.{Stop}
 use Rattle.ob_stream.specs.declared.watched.Watched.{Watched}
 use Rattle.ob_store.specs.Keepers.{Ghosts, KeeperValue}
 use Rattle.ob_cli.specs.declared.status.Unfinished.{Unfinished}
-use Rattle.ob_jobs.specs.Books.{AuditsBook, ExportsFromBook, ImportsIntoBook, ImportsWholeIntoBook, MakesBook, MigratesBook, PrintsBook, ServesBook, WritesRowsOfBook}
+use Rattle.ob_jobs.specs.Books.{AuditsBook, ExportsFromBook, ImportsIntoBook, ImportsWholeIntoBook, MakesBook, MigratesBook, PrintsBook, PrintsIndices, ServesBook, WritesRowsOfBook}
 use Rattle.ob_jobs.specs.declared.tasks.Task.{Task}
 use Rattle.ob_jobs.specs.declared.tasks.Task.TheVariants as tasks
 
@@ -41,6 +41,7 @@ module _ {S I R O F V Q W : Type 0} (g : Ghosts S)
   RunsTask (tasks.Interruptions was) old new before after result =
       (is : O) × WritesRowsOfBook g makes filled contents old new was is before after result
   RunsTask tasks.Table old new before after result = PrintsBook g contents old new before after result
+  RunsTask (tasks.Indices by longest) old new before after result = PrintsIndices g contents by longest old new before after result
   RunsTask tasks.Audit old new before after result = AuditsBook g contents old new before after result
   RunsTask tasks.Migrate old new before after result = MigratesBook g contents old new before after result
   RunsTask (tasks.Serve was) old new before after result =

@@ -1,5 +1,6 @@
 //! The program's jobs on a book: create one, import commands, export the changes of amounts, write
-//! the customers' interruptions, print the annual table, audit, migrate and serve it.
+//! the customers' interruptions, print the annual table or the indices of feeders, months, causes and
+//! sections, audit, migrate and serve it.
 //!
 //! Has two public functions for each job. One does its work on a keeper; `ob_import` has that of an
 //! import. The other first loads the book if the work needs it, and only then opens the input or
@@ -13,6 +14,7 @@ mod ending;
 mod export;
 mod import;
 mod import_whole;
+mod indices;
 mod init;
 mod interruptions;
 mod line;
@@ -30,6 +32,7 @@ pub use audit::{audit_book, run_audit};
 pub use export::{export_from_book, run_export};
 pub use import::import_into_book;
 pub use import_whole::import_whole_into_book;
+pub use indices::{print_indices, run_indices};
 pub use init::{make_book, run_init};
 pub use interruptions::{interruptions_from_book, run_interruptions};
 pub use migrate::{migrate_book, run_migrate};

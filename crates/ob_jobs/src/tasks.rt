@@ -5,10 +5,12 @@ ghost use Rattle.ob_jobs.specs.Tasks.{RunsTask, makes_book, may_write};
 use crate::opening::{OpenInput, OpenOutput, ServeBook};
 use crate::{
     audit_book, export_from_book, import_into_book, import_whole_into_book,
-    interruptions_from_book, make_book, migrate_book, print_book, serve_book,
+    interruptions_from_book, make_book, migrate_book, print_book, print_indices, serve_book,
 };
+use ob_base::Second;
 use ob_cli::Unfinished;
 use ob_import::Progress;
+use ob_selections::By;
 use ob_store::{Alter, Keeper};
 use ob_stream::Watched;
 use ob_sweep::Timeline;
@@ -37,6 +39,8 @@ pub enum Task<'w, I, O, V> {
     Interruptions(O),
     /// Prints the annual table.
     Table,
+    /// Prints the indices listed by these, with this longest momentary interruption.
+    Indices(By, Second),
     /// Compares the tables with the commands.
     Audit,
     /// Upgrades a book of version 1 to version 2.
@@ -57,6 +61,7 @@ impl<I, O, V> Task<'_, I, O, V> {
             | Task::Export(_)
             | Task::Interruptions(_)
             | Task::Table
+            | Task::Indices(..)
             | Task::Audit
             | Task::Migrate
             | Task::Serve(_) => false,
@@ -73,7 +78,11 @@ impl<I, O, V> Task<'_, I, O, V> {
             | Task::ImportWhole(_)
             | Task::Migrate
             | Task::Serve(_) => true,
-            Task::Export(_) | Task::Interruptions(_) | Task::Table | Task::Audit => false,
+            Task::Export(_)
+            | Task::Interruptions(_)
+            | Task::Table
+            | Task::Indices(..)
+            | Task::Audit => false,
         }
     }
 }
@@ -108,6 +117,7 @@ pub fn run_task<
             interruptions_from_book(alloc, keeper, &mut output, progress, writer)
         }
         Task::Table => print_book(keeper, progress, writer),
+        Task::Indices(by, longest) => print_indices(alloc, keeper, by, longest, progress, writer),
         Task::Audit => audit_book(alloc, keeper, writer),
         Task::Migrate => migrate_book(keeper, writer),
         Task::Serve(mut server) => serve_book(keeper, &mut server, progress),

@@ -32,6 +32,10 @@ fn told(alloc: Global, job: &Job) -> Result<String, AllocError> {
             two_words(alloc, "interruptions", book.as_str(), output.as_str())
         }
         Job::Table { book } => two_words(alloc, "table", book.as_str(), "-"),
+        Job::Indices { book, by, over } => {
+            let (book, by) = (book.as_str(), by_word(*by));
+            format!(in alloc; "indices {book} {by} {over}")
+        }
         Job::Audit { book } => two_words(alloc, "audit", book.as_str(), "-"),
         Job::Migrate { book } => two_words(alloc, "migrate", book.as_str(), "-"),
         Job::Serve {

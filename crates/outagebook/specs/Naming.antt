@@ -1,5 +1,9 @@
 -- The task that a job names.
 use Rattle.std.specs.Prelude.{◌≡◌, ⊤, ℕ, List, Option, Some, None}
+use Rattle.ob_cli.specs.declared.job.By as words
+use Rattle.ob_cli.specs.declared.job.By.TheVariants as named
+use Rattle.ob_selections.specs.declared.selection.By.{By}
+use Rattle.ob_selections.specs.declared.selection.By.TheVariants as listing
 use Rattle.ob_cli.specs.declared.job.Job.{Job}
 use Rattle.ob_cli.specs.declared.job.Job.TheVariants as jobs
 use Rattle.ob_jobs.specs.declared.tasks.Task.{Task}
@@ -8,6 +12,14 @@ use Rattle.outagebook.specs.declared.books.InputFile.{InputFile}
 use Rattle.outagebook.specs.declared.books.OutputFile.{OutputFile}
 use Rattle.outagebook.specs.declared.desk.Server.{Server}
 use Rattle.outagebook.specs.declared.task.BookTask.{BookTask}
+
+-- what indices are listed by, as the task has it
+abbrev pub listed_by : words.By → By
+listed_by named.Whole = listing.Whole
+listed_by named.Feeder = listing.Feeder
+listed_by named.Month = listing.Month
+listed_by named.Cause = listing.Cause
+listed_by named.Section = listing.Section
 
 module _ {B E : Type 0} where
   -- the task of a job's name is done on the book that the job names, with the values of its options, and no other
@@ -19,6 +31,7 @@ module _ {B E : Type 0} where
   DoesJob (jobs.Export book output) on (tasks.Export file) = (on ≡ book) × (file.path.now ≡ output)
   DoesJob (jobs.Interruptions book output) on (tasks.Interruptions file) = (on ≡ book) × (file.path.now ≡ output)
   DoesJob (jobs.Table book) on tasks.Table = on ≡ book
+  DoesJob (jobs.Indices book by over) on (tasks.Indices which longest) = (on ≡ book) × (which ≡ listed_by by) × (longest ≡ over)
   DoesJob (jobs.Audit book) on tasks.Audit = on ≡ book
   DoesJob (jobs.Migrate book) on tasks.Migrate = on ≡ book
   DoesJob (jobs.Serve book port streams) on (tasks.Serve server) = (on ≡ book) × (server.port ≡ port) × (server.streams ≡ streams)

@@ -25,6 +25,7 @@ pub(crate) fn begin<I, O, V>(
         | Task::Export(_)
         | Task::Interruptions(_)
         | Task::Table
+        | Task::Indices(..)
         | Task::Audit
         | Task::Migrate
         | Task::Serve(_) => look_for_file(is_there),

@@ -1,10 +1,12 @@
 //! The task that a job is, over the program's own files and port.
-ghost use Rattle.outagebook.specs.Naming.{IsTaskOf};
+ghost use Rattle.std.specs.Prelude.{◌≡◌};
+ghost use Rattle.outagebook.specs.Naming.{IsTaskOf, listed_by};
 
 use crate::books::{InputFile, OutputFile};
 use crate::desk::{Server, SocketServer};
-use ob_cli::{Job, Word};
+use ob_cli::{By as WordsBy, Job, Word};
 use ob_jobs::Task;
+use ob_selections::By;
 
 /// A task on a book in a file.
 pub(crate) type FileTask<'w> = Task<'w, InputFile<'w>, OutputFile<'w>, SocketServer<'w>>;
@@ -44,6 +46,7 @@ pub(crate) fn task_of<'w>(rt: &'w HostRuntime, job: &'w Job) -> Option<BookTask<
             (book, Task::Interruptions(OutputFile { rt, path: output }))
         }
         Job::Table { book } => (book, Task::Table),
+        Job::Indices { book, by, over } => (book, Task::Indices(task_by(*by), *over)),
         Job::Audit { book } => (book, Task::Audit),
         Job::Migrate { book } => (book, Task::Migrate),
         Job::Serve {
@@ -53,4 +56,17 @@ pub(crate) fn task_of<'w>(rt: &'w HostRuntime, job: &'w Job) -> Option<BookTask<
         } => (book, Task::Serve(Server::new(rt, *port, *streams))),
     };
     Some(BookTask { book, task })
+}
+
+/// Returns what indices are listed by, as the task has it.
+fn task_by(by: WordsBy) -> By
+    ensures { result ≡ listed_by by }
+{
+    match by {
+        WordsBy::Whole => By::Whole,
+        WordsBy::Feeder => By::Feeder,
+        WordsBy::Month => By::Month,
+        WordsBy::Cause => By::Cause,
+        WordsBy::Section => By::Section,
+    }
 }

@@ -21,10 +21,12 @@ returns c =
     ∙ ap₂ with_subcommand four (ap top c.in_ok-interruptions_command.ensures.app) in
     let six = c.in_ok-subcommand-6.ensures.shape c.in_ok-table_command.ensures.local
     ∙ ap₂ with_subcommand five (ap top c.in_ok-table_command.ensures.app) in
-    let seven = c.in_ok-subcommand-7.ensures.shape c.in_ok-audit_command.ensures.local
-    ∙ ap₂ with_subcommand six (ap top c.in_ok-audit_command.ensures.app) in
-    let eight = c.in_ok-subcommand-8.ensures.shape c.in_ok-migrate_command.ensures.local
-    ∙ ap₂ with_subcommand seven (ap top c.in_ok-migrate_command.ensures.app) in
-    IfOk-weaker c.subcommand-9.result _ _
+    let seven = c.in_ok-subcommand-7.ensures.shape c.in_ok-indices_command.ensures.local
+    ∙ ap₂ with_subcommand six (ap top c.in_ok-indices_command.ensures.app) in
+    let eight = c.in_ok-subcommand-8.ensures.shape c.in_ok-audit_command.ensures.local
+    ∙ ap₂ with_subcommand seven (ap top c.in_ok-audit_command.ensures.app) in
+    let nine = c.in_ok-subcommand-9.ensures.shape c.in_ok-migrate_command.ensures.local
+    ∙ ap₂ with_subcommand eight (ap top c.in_ok-migrate_command.ensures.app) in
+    IfOk-weaker c.subcommand-10.result _ _
     (λ r h. h.shape c.in_ok-serve_command.ensures.local
-    ∙ ap₂ with_subcommand eight (ap top c.in_ok-serve_command.ensures.app)) c.subcommand-9.ensures
+    ∙ ap₂ with_subcommand nine (ap top c.in_ok-serve_command.ensures.app)) c.subcommand-10.ensures

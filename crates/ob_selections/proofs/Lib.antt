@@ -1,0 +1,9 @@
+mod Added
+mod Bounds
+mod Growing
+mod Prefixes
+mod Rows
+mod Summed
+mod Tallied
+mod Texts
+mod Whole

@@ -1,0 +1,9 @@
+pub mod Selections
+pub mod Tallies
+pub mod Sums
+pub mod Formulas
+pub mod Decimals
+pub mod Lines
+pub mod Listed
+pub mod IndexText
+pub mod SelectionLaws

@@ -1,0 +1,250 @@
+//! Indices as data: each a quotient of measures under a name.
+ghost use Rattle.std.specs.Prelude.{◌≡◌, ◌≤◌, ◌<◌, ◌^◌, ℕ, slice_index, slice_index_or};
+ghost use Rattle.ob_index.specs.Short.{IsShort};
+ghost use Rattle.ob_selections.specs.Formulas.{divided as divided_by, listed, unlisted, divisor as divisor_of, index_of as index_among, measured as measure_of, value_of as value_by};
+ghost use Rattle.ob_selections.specs.Sums.{AreAtMost};
+
+use crate::figures::Figures;
+use ob_index::laws::quotient_law;
+use ob_index::{Fraction, reduced};
+
+/// What an index divides, or is divided by.
+#[derive(Clone, Copy)]
+pub enum Measure {
+    /// Sustained interruptions (CI).
+    Sustained,
+    /// Customer-seconds of the sustained interruptions (CSI).
+    SustainedSeconds,
+    /// Customers with this many sustained interruptions and one more, or more (CN_n).
+    Interrupted(u8),
+    /// Momentary interruptions (MI).
+    Momentary,
+    /// Customer-seconds in service (S).
+    Service,
+    /// Customer-seconds in service outside sustained interruptions (S - CSI).
+    Served,
+}
+
+/// A quotient of measures.
+#[derive(Clone, Copy)]
+pub struct Formula {
+    /// What is divided.
+    pub numerator: Measure,
+    /// Whether the numerator is taken times the seconds of the days (P).
+    pub of_period: bool,
+    /// What it is divided by.
+    pub denominator: Measure,
+    /// A factor of the denominator: 60 for minutes, else 1.
+    pub scale: u8,
+    /// How many decimals are shown, 0 to 5.
+    pub places: u8,
+}
+
+// So many of a measure for each customer served, S / P.
+const PER_CUSTOMER: Formula = Formula {
+    numerator: Measure::Sustained,
+    of_period: true,
+    denominator: Measure::Service,
+    scale: 1,
+    places: 3,
+};
+
+/// How many indices are listed.
+pub const LISTED: usize = 16;
+
+/// An index of a selection by its place in the list, under its name.
+pub fn listed_at(place: usize) -> (&'static str, Formula)
+    requires { place < 16 }
+    ensures name { result.0.now ≡ (slice_index_or listed place unlisted).0 }
+    ensures formula { result.1 ≡ (slice_index_or listed place unlisted).1 }
+{
+    match place {
+        0 => ("saifi", PER_CUSTOMER),
+        1 => (
+            "saidi",
+            Formula {
+                numerator: Measure::SustainedSeconds,
+                scale: 60,
+                ..PER_CUSTOMER
+            },
+        ),
+        2 => (
+            "caidi",
+            Formula {
+                numerator: Measure::SustainedSeconds,
+                of_period: false,
+                denominator: Measure::Sustained,
+                scale: 60,
+                ..PER_CUSTOMER
+            },
+        ),
+        3 => (
+            "caifi",
+            Formula {
+                of_period: false,
+                denominator: Measure::Interrupted(0),
+                ..PER_CUSTOMER
+            },
+        ),
+        4 => (
+            "asai",
+            Formula {
+                numerator: Measure::Served,
+                of_period: false,
+                places: 5,
+                ..PER_CUSTOMER
+            },
+        ),
+        5 => (
+            "cemi_1",
+            Formula {
+                numerator: Measure::Interrupted(0),
+                ..PER_CUSTOMER
+            },
+        ),
+        6 => (
+            "cemi_2",
+            Formula {
+                numerator: Measure::Interrupted(1),
+                ..PER_CUSTOMER
+            },
+        ),
+        7 => (
+            "cemi_3",
+            Formula {
+                numerator: Measure::Interrupted(2),
+                ..PER_CUSTOMER
+            },
+        ),
+        8 => (
+            "cemi_4",
+            Formula {
+                numerator: Measure::Interrupted(3),
+                ..PER_CUSTOMER
+            },
+        ),
+        9 => (
+            "cemi_5",
+            Formula {
+                numerator: Measure::Interrupted(4),
+                ..PER_CUSTOMER
+            },
+        ),
+        10 => (
+            "cemi_6",
+            Formula {
+                numerator: Measure::Interrupted(5),
+                ..PER_CUSTOMER
+            },
+        ),
+        11 => (
+            "cemi_7",
+            Formula {
+                numerator: Measure::Interrupted(6),
+                ..PER_CUSTOMER
+            },
+        ),
+        12 => (
+            "cemi_8",
+            Formula {
+                numerator: Measure::Interrupted(7),
+                ..PER_CUSTOMER
+            },
+        ),
+        13 => (
+            "cemi_9",
+            Formula {
+                numerator: Measure::Interrupted(8),
+                ..PER_CUSTOMER
+            },
+        ),
+        14 => (
+            "cemi_10",
+            Formula {
+                numerator: Measure::Interrupted(9),
+                ..PER_CUSTOMER
+            },
+        ),
+        _ => (
+            "maifi",
+            Formula {
+                numerator: Measure::Momentary,
+                ..PER_CUSTOMER
+            },
+        ),
+    }
+}
+
+/// The value of an index. `None` if it divides by 0, or if it asks for all days of the period and
+/// the figures are of some days only.
+pub fn index_of(formula: &Formula, figures: &Figures, all_days: bool) -> Option<Fraction>
+    requires small { AreAtMost (2 ^ 52) figures.now }
+    requires short { figures.now.length < 2 ^ 25 }
+    ensures value { result ≡ index_among all_days figures.now formula.now }
+    ensures short { IsShort result }
+{
+    match formula.numerator {
+        Measure::Served if !all_days => None,
+        _ => value_of(formula, figures),
+    }
+}
+
+// The value of an index; `None` if it divides by 0.
+fn value_of(formula: &Formula, figures: &Figures) -> Option<Fraction>
+    requires small { AreAtMost (2 ^ 52) figures.now }
+    requires short { figures.now.length < 2 ^ 25 }
+    ensures value { result ≡ value_by formula.now figures.now }
+    ensures short { IsShort result }
+{
+    // This call's contract states that a quotient is one fraction, and how large its numbers are.
+    quotient_law();
+    reduced(divided(formula, figures), divisor(formula, figures))
+}
+
+fn divided(formula: &Formula, figures: &Figures) -> u128
+    requires small { AreAtMost (2 ^ 52) figures.now }
+    requires short { figures.now.length < 2 ^ 25 }
+    ensures value { result ≡ divided_by figures.now formula.now }
+    ensures small { result < 2 ^ 100 }
+{
+    let measure = u128::from(measured(formula.numerator, figures));
+    if formula.of_period {
+        measure * u128::from(figures.length)
+    } else {
+        measure
+    }
+}
+
+fn divisor(formula: &Formula, figures: &Figures) -> u128
+    requires small { AreAtMost (2 ^ 52) figures.now }
+    ensures value { result ≡ divisor_of figures.now formula.now }
+    ensures small { result < 2 ^ 100 }
+{
+    u128::from(formula.scale) * u128::from(measured(formula.denominator, figures))
+}
+
+fn measured(measure: Measure, figures: &Figures) -> u64
+    requires small { AreAtMost (2 ^ 52) figures.now }
+    ensures value { result ≡ measure_of figures.now measure }
+    ensures small { result ≤ 2 ^ 52 }
+{
+    let counts = &figures.counts;
+    match measure {
+        Measure::Sustained => counts.ci,
+        Measure::SustainedSeconds => counts.csi,
+        Measure::Interrupted(place) => interrupted(&counts.cn_n, place),
+        Measure::Momentary => counts.mi,
+        Measure::Service => figures.served,
+        Measure::Served => figures.served.saturating_sub(counts.csi),
+    }
+}
+
+// The customers at a place of CN_n; 0 past its end.
+fn interrupted(customers: &[u64; 10], place: u8) -> u64
+    requires { (k : ℕ) → k < 10 → slice_index customers.now k ≤ 2 ^ 52 }
+    ensures value { result ≡ slice_index_or customers.now place 0 }
+    ensures small { result ≤ 2 ^ 52 }
+{
+    let place = usize::from(place);
+    if place < 10 { customers[place] } else { 0 }
+}
