@@ -49,12 +49,7 @@ QUARRY,unmarked,1206000,2412000,2/1,2.000,4,81000,2,6,2/1,2.000,675/1,675.000,67
 ";
 
 // The text of indices as a string.
-fn listed(
-    alloc: Global,
-    book: &Book<Windowed>,
-    by: By,
-    longest: u64,
-) -> Result<String, Fail> {
+fn listed(alloc: Global, book: &Book<Windowed>, by: By, longest: u64) -> Result<String, Fail> {
     let text = indices_text(alloc, book, by, longest)?;
     String::from_utf8(text).map_err(|_| "no text".into())
 }

@@ -40,7 +40,7 @@ selected_is b which longest c =
     let first = first_second_of b.period in
     let end = end_second_of b.period in
     kept_same (interval_from test end) (starts_at test first) (is_selected b (whole b which longest) c.section) (is_counted b.period b.marks which) first (end - first)
-        (λ t low high. passes_whole b which longest c.section (interval_from test end t) low (omega (arith, high, low)))
+    (λ t low high. passes_whole b which longest c.section (interval_from test end t) low (omega (arith, high, low)))
 
 whole_counts : (b : BookState) (which : Which) → counts_of_selection b (whole b which 300) ≡ counts_of_book b which
 whole_counts b which = λ t. counts_of (λ c. selected_is b which 300 c t) b.customers

@@ -50,7 +50,7 @@ pub add-requires-clause-sustained : goal.add-requires-clause-sustained
 add-requires-clause-sustained g c =
     let b : BookState = c.args.book.now.state in
     let within = next_within (customer_of c.args.block.now) (first_second_of b.period) (end_second_of b.period) c.args.runs.now c.loop-run.run-index _ c.part_in_service-part.result
-        c.loop-run-test.true c.part_in_service-part.ensures.part c.requires.some c.requires.rising c.requires.within in
+    c.loop-run-test.true c.part_in_service-part.ensures.part c.requires.some c.requires.rising c.requires.within in
     let few = c.loop-run.invariant.tallied.few_sustained in
     let long = has_some c.part_in_service-part.result _ (sym c.is_interruption.ensures ∙ c.if-is_interruption.true) in
     let period : c.deref.result.now ≡ b.period = c.deref.ensures ∙ c.period.ensures in
@@ -62,7 +62,7 @@ pub add-requires-clause-seconds : goal.add-requires-clause-seconds
 add-requires-clause-seconds g c =
     let b : BookState = c.args.book.now.state in
     let within = next_within (customer_of c.args.block.now) (first_second_of b.period) (end_second_of b.period) c.args.runs.now c.loop-run.run-index _ c.part_in_service-part.result
-        c.loop-run-test.true c.part_in_service-part.ensures.part c.requires.some c.requires.rising c.requires.within in
+    c.loop-run-test.true c.part_in_service-part.ensures.part c.requires.some c.requires.rising c.requires.within in
     let few = c.loop-run.invariant.tallied.few_seconds in
     let period : c.deref.result.now ≡ b.period = c.deref.ensures ∙ c.period.ensures in
     let length : c.length.result + first_second_of b.period ≡ end_second_of b.period = subst (λ (p : Calendar). c.length.result + first_second_of p ≡ end_second_of p) period c.length.ensures.value in
@@ -73,7 +73,7 @@ pub add-requires-clause-momentary : goal.add-requires-clause-momentary
 add-requires-clause-momentary g c =
     let b : BookState = c.args.book.now.state in
     let within = next_within (customer_of c.args.block.now) (first_second_of b.period) (end_second_of b.period) c.args.runs.now c.loop-run.run-index _ c.part_in_service-part.result
-        c.loop-run-test.true c.part_in_service-part.ensures.part c.requires.some c.requires.rising c.requires.within in
+    c.loop-run-test.true c.part_in_service-part.ensures.part c.requires.some c.requires.rising c.requires.within in
     let few = c.loop-run.invariant.tallied.few_momentary in
     let long = has_some c.part_in_service-part.result _ (sym c.is_interruption.ensures ∙ c.if-is_interruption.true) in
     let period : c.deref.result.now ≡ b.period = c.deref.ensures ∙ c.period.ensures in
