@@ -280,7 +280,7 @@ class Books(unittest.TestCase):
         text = page.read_text()
         self.assertIn("Major event days", text)
         self.assertIn("there is no threshold", text)
-        self.assertIn("Days by the logarithm of their daily SAIDI", text)
+        self.assertIn("Days by their daily SAIDI", text)
 
     def test_wrong_words(self) -> None:
         for arguments in ("", "a.db --rows ENG", "a.db -o x", "a.db --rows eng -o x", "a.db b.db --table x"):

@@ -14,6 +14,7 @@ from outage_tools.counts import decimal_text
 from outage_tools.errors import BookError
 from outage_tools.events import read_rule
 from outage_tools.lists import read_cause_groups, read_names, read_section_groups
+from outage_tools.pack.shown import compare_shown, report_shows, words_of_table
 from outage_tools.report import Asked, page
 from outage_tools.report.exact import value_text
 from outage_tools.report.style import css_string
@@ -101,6 +102,12 @@ class Page(unittest.TestCase):
             fraction = f' <span class="fraction">{words[0]}</span>' if len(words) == 2 else ""
             self.assertIn(f'<td data-set="{which}"><b>{value}</b>{fraction}</td>', text)
             self.assertIn(value, [words[-1], "0.99034", "0.99268"])
+
+    def test_a_reader_of_packs_finds_the_programs_figures(self) -> None:
+        """Of books with marked days and without: each index and count of both sets, by its decimals and its fraction."""
+        for made in support.books():
+            shown = report_shows(support.written("shown.html", page(support.opened(made))))
+            self.assertIsNone(compare_shown(shown, words_of_table(made.table.read_text())), made.name)
 
     def test_of_asai_five_decimals_and_per_cent_are_shown(self) -> None:
         text = page(support.opened(support.fortnight()))

@@ -21,9 +21,11 @@ HEADS = [
 
 
 def counts_by_cause(book: Book, had: Iterable[Interruption]) -> str:
-    """How many interruptions have which cause, the most first: `TREE 3, WIND 1`."""
+    """How many interruptions have which cause, the most first: `TREE 3, WIND 1`, a cause and its number on one line."""
     counts = Counter(book.causes.get(each.cause, str(each.cause)) for each in had)
-    return ", ".join(f"{cause} {count}" for cause, count in sorted(counts.items(), key=lambda one: (-one[1], one[0])))
+    return ", ".join(
+        f"{cause}\u00a0{count}" for cause, count in sorted(counts.items(), key=lambda one: (-one[1], one[0]))
+    )
 
 
 def customer_row(book: Book, served: Served, names: Names) -> TableRow:

@@ -90,7 +90,7 @@ footer { margin-top: 3rem; border-top: 1px solid var(--line); padding-top: .8rem
     padding: .05rem 0; white-space: normal; text-align: left; min-width: 0; }
   .cards td:empty { display: none; }
   .cards td::before { content: attr(data-label); color: var(--soft); }
-  .cards td:first-child { font-weight: 600; }
+  .cards.wide td:first-child { font-weight: 600; border: 0; padding-left: 0; }
 }
 @media screen and (max-width: 40rem) {
   .for-wide { display: none; } .for-narrow, .scrolls { display: block; }
