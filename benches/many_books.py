@@ -11,8 +11,8 @@ and commands alone.
 Then, for each number of districts, in rising order: the sum of all, their load into the warehouse in PostgreSQL (libpq's
 environment says where), which has those of the number before already, the load again, the time of some views over all; and
 that SAIDI of the sum and of the warehouse are one fraction, or it ends with 1. Tables are printed once before and told by
-themselves: the tools' own seconds are those without the program's. Processor seconds are those of a command with all that
-it started; PostgreSQL's stand beside them.
+themselves: of the program the tools' own seconds have the list of interruptions alone. Processor seconds are those of a
+command with all that it started; PostgreSQL's stand beside them.
 """
 
 import argparse
@@ -137,10 +137,11 @@ def tool(name: str, *words: object) -> Ran:
     return run(sys.executable, ROOT / f"tools/{name}.py", *words)
 
 
-def measure(folder: Path, districts: int, before: int) -> None:
+def measure(folder: Path, program: str, districts: int, before: int) -> None:
     """The tools over so many districts, of which the warehouse has those before."""
     books = [folder / f"d{number}.db" for number in range(1, districts + 1)]
-    words = [*books, *(word for book in books for word in ("--table", book.with_suffix(".txt")))]
+    tables = [word for book in books for word in ("--table", book.with_suffix(".txt"))]
+    words = [*books, *tables, "--program", program]
     ran = tool("sum", *words, "--own-numbers")
     tell(f"sum, {districts} districts", districts, ran)
     saidi = next(line.split()[2] for line in ran.text.splitlines() if line.startswith("SAIDI     all"))
@@ -181,7 +182,7 @@ def main() -> None:
     tool("warehouse", "create")
     before = 0
     for districts in sorted(set(given.districts)):
-        measure(given.folder, districts, before)
+        measure(given.folder, given.program, districts, before)
         before = districts
 
 

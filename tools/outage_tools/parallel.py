@@ -23,7 +23,7 @@ Work = Callable[[str, str | None, str], Result]
 Ended = Generator[tuple[int, Told[Result]], None, None]  # a book's place, and what came of it
 
 LEAST_MEMORY = 100_000_000  # bytes that a book takes beside what grows with its file
-MEMORY_PER_BYTE = 6  # bytes of memory for each byte of a book's file and log, while it is swept
+MEMORY_PER_BYTE = 6  # bytes of memory for each byte of a book's file and log, while it is read
 
 
 class DiffersIn(Differs):

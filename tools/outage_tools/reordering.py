@@ -48,7 +48,7 @@ class Sorting:
     switchings: list[Timed] = field(default_factory=list)
     said: dict[str, tuple[int, object]] = field(
         default_factory=dict
-    )  # of each reference: its first row, what that says
+    )  # the first row of each reference, and what it says
 
     def take(self, number: int, row: Command) -> None:
         """A row. A ValueError says why the file has to stay in its order."""

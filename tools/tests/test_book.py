@@ -9,6 +9,7 @@ import threading
 import unittest
 from pathlib import Path
 
+from outage_tools.by_oracle import compare_rows
 from outage_tools.compare import compare_table, figures_of_table, open_book
 from outage_tools.copies import copy_of
 from outage_tools.errors import BookError, Differs
@@ -90,6 +91,12 @@ class Changed(unittest.TestCase):
             done = support.run_tool("compare", changed(f"change-{table}", change), table=support.fortnight())
             self.assertEqual((done.returncode, done.stdout), (2, ""), change)
             self.assertIn(f"table {table} of the book" if table != "customer" else "differs: ", done.stderr)
+
+    def test_rows_of_interruptions(self) -> None:
+        compare_rows(["a", "b"], ["a", "b"])
+        for here, there, told in ((["a", "b"], ["a", "c"], "row 1"), (["a", "b"], ["a"], "rows of")):
+            with self.assertRaisesRegex(Differs, told):
+                compare_rows(here, there)
 
     def test_what_a_tool_itself_reads(self) -> None:
         changes = [

@@ -166,7 +166,7 @@ class Install(unittest.TestCase):
         self.assertEqual(subprocess.run(command, capture_output=True, check=False).returncode, 0)
         library = prefix / "lib/outagebook"
         installed = {path.relative_to(library).as_posix() for path in library.rglob("*.py")}
-        installed = {path for path in installed if not path.startswith("screen/")}
+        installed = {path for path in installed if not path.startswith(("oracle/", "screen/"))}
         package = {path.relative_to(support.TOOLS).as_posix() for path in support.TOOLS.glob("outage_tools/**/*.py")}
         commands = {path.name for path in support.TOOLS.glob("*.py")}
         self.assertEqual(installed, package | commands)

@@ -14,7 +14,6 @@ from outage_tools.forms import Figures
 from outage_tools.indices import HOURS, Loads
 from outage_tools.keys import Keys
 from outage_tools.lists import Groups, Names, with_names
-from outage_tools.outages import interruptions
 from outage_tools.section_groups import groups
 from outage_tools.versions import Made
 from outage_tools.workbook.recount import recount
@@ -133,7 +132,7 @@ def meanings(sheets: Sequence[Sheet]) -> Sheet:
 
 def sheets_of(found: Checked, wanted: Wanted, made: Made, most: int = MOST_ROWS) -> list[Sheet]:
     """All sheets of a workbook; one with more rows than `most` is parted."""
-    rows = sheet_of(named(interruptions(found), found, wanted), "outagebook-figures BOOK interruptions", TESTED)
+    rows = sheet_of(named(figures.interruptions(found), found, wanted), "outagebook-figures BOOK interruptions", TESTED)
     interruptions = list(parts_of(rows, most))
     others = [part for sheet in figure_sheets(found, wanted) for part in parts_of(sheet, most)]
     further = [part for sheet in further_sheets(found, wanted) for part in parts_of(sheet, most)]
