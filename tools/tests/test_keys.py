@@ -9,6 +9,7 @@ from pathlib import Path
 from outage_tools.above import customers_above
 from outage_tools.compare import Checked, open_book
 from outage_tools.keys import Keys, beside, fingerprint, keys_shown, read_keys
+from outage_tools.pack.manifest import NAME, Manifest, packed, read_manifest
 from tests import exports, support
 from tests.exports import Done
 
@@ -269,6 +270,73 @@ class Shown(WithBook):
     def test_where_the_table_is(self) -> None:
         self.assertEqual(beside(Path("books/2024.db")), Path("books/2024.keys.csv"))
         self.assertEqual(beside("2024"), Path("2024.keys.csv"))
+
+
+@support.needs_program
+class Packed(WithBook):
+    """The program's book: made by one command, packed with the keys of its customers, and checked."""
+
+    def setUp(self) -> None:
+        super().setUp()
+        self.year, self.pack = self.folder / "year.db", self.folder / "pack"
+        files = exports.arguments_of(self.folder / "in", {"customers": register()})
+        self.words = ["--program", support.PROGRAM]
+        done = support.run_tool("make", self.year, *files, *exports.PERIOD, *self.words, "--keys", self.table)
+        self.assertEqual(done.returncode, 0, done.stderr)
+        self.table.write_text(self.table.read_text() + "20,OF-ANOTHER-BOOK\n")
+
+    def packed(self) -> Path:
+        done = support.run_tool("pack", self.year, self.pack, "--above", "1", *self.words)
+        self.assertEqual(done.returncode, 0, done.stderr)
+        return self.pack / "lists/keys.csv"
+
+    def verified(self) -> tuple[int, str]:
+        done = support.run_tool("verify", self.pack, *self.words)
+        return done.returncode, done.stdout + done.stderr
+
+    def test_the_keys_of_the_book(self) -> None:
+        """Rows of other books' customers stay out."""
+        keys = self.packed()
+        self.assertEqual(list(read_keys(keys).keys), list(range(1, 14)))
+        status, said = self.verified()
+        self.assertEqual(status, 0, said)
+        self.assertIn("lists/keys.csv: 13 keys, each of a customer of the book", said)
+
+    def test_forged_keys(self) -> None:
+        for old, new, why in (
+            (f"3,{key_of(5003)}", f"3,{key_of(5003)}X", "row 3: the customer 3 came by another key"),
+            (f"3,{key_of(5003)}\n", "", "no row has the number 3"),
+            (f"3,{key_of(5003)}\n", f"3,{key_of(5003)}\n99,NOBODY\n", "the book has no customer 99"),
+        ):
+            with self.subTest(why):
+                shutil.rmtree(self.pack, ignore_errors=True)
+                keys = self.packed()
+                text = keys.read_text()
+                self.assertEqual(text.count(old), 1)
+                keys.write_text(text.replace(old, new))
+                manifest = read_manifest(self.pack / NAME)
+                (self.pack / NAME).write_text(Manifest(manifest.about, packed(self.pack)).text())
+                status, said = self.verified()
+                self.assertEqual(status, 2)
+                self.assertRegex(said, f"(?s)differs: lists/keys.csv: .*{why}")
+
+    def test_without_the_table(self) -> None:
+        self.table.unlink()
+        done = support.run_tool("pack", self.year, self.pack, *self.words)
+        self.assertIn("note: no table of keys", done.stderr)
+        self.assertEqual((self.pack / "lists").exists(), False)
+        self.assertEqual(self.verified()[0], 0)
+
+    def test_a_try_names_rows(self) -> None:
+        """A new customer under a number that is taken: the try tells the row of its key."""
+        files = exports.arguments_of(self.folder / "in", {"customers": register("NEW-KEY,DEPOT,2025-10-21,")})
+        done = exports.run(*files, "--book", self.year, *self.words)
+        rows = self.folder / "rows.csv"
+        rows.write_text(done.out.replace(",21,DEPOT", ",13,DEPOT"))
+        tried = support.run_tool(
+            "try", self.year, rows, "--customers", self.folder / "in/customers.csv", *map(str, self.words)
+        )
+        self.assertRegex(tried.stdout, "connect CIS-21-K[0-9A-F]{16} .*customers.csv row 14")
 
 
 if __name__ == "__main__":

@@ -182,13 +182,12 @@ class Change:
         self.model.nodes = nodes
         gone = self.there.nodes.keys() - {node.name for node in nodes} - self.there.supply.keys()
         at = self.there.at
-        for name in sorted(gone):
-            services = [each for each in self.there.customers.values() if each.section == name]
-            count = sum(each.since <= at and (each.until is None or at < each.until) for each in services)
-            if count:
-                self.said.append(
-                    f"{name} isn't in the export any more; customers of the book there, without supply: {count}"
-                )
+        served = (each for each in self.there.customers.values() if each.since <= at)
+        counts = Counter(each.section for each in served if each.until is None or at < each.until)
+        for name in sorted(gone & counts.keys()):
+            self.said.append(
+                f"{name} isn't in the export any more; customers of the book there, without supply: {counts[name]}"
+            )
 
     def rows_of(self, row: DeviceRow) -> Iterator[DeviceRow]:
         """The row of a device that is as it was; else of its end and of its beginning under a further name."""

@@ -1,15 +1,13 @@
 """What no source feeds: refused where somebody hangs on it, else told and left out."""
 
-from bisect import bisect_left
-from collections import defaultdict
 from collections.abc import Iterable, Iterator
 from dataclasses import dataclass, field
-from math import hypot
 
 from outage_tools.normal_state import TestedDevice, TestedNetwork
 from outage_tools.oms.complaints import Complaints, Notes
 from outage_tools.sections.cut import GRID_AREA, Cut, networkx
-from outage_tools.sections.edges import TRANSFORMER, Customer, Edge, Point, Raw
+from outage_tools.sections.edges import TRANSFORMER, Customer, Edge, Raw
+from outage_tools.sections.near import Near
 from outage_tools.sections.placing import Placed
 
 MOST_NAMES = 8  # of the edges and customers of an island
@@ -106,8 +104,9 @@ def look_at_islands(
             continue
         left |= island.areas
         reason = "spare parts behind open devices" if island.ties else "edges that no source feeds and nobody is on"
+        reason += near.text(island.nodes)
         for edge in (*(each for each in island.edges if each.a != each.b), *island.ties):
-            notes[edge.spot.file].left_out(reason + near.text(island.nodes), edge.spot)
+            notes[edge.spot.file].left_out(reason, edge.spot)
     return left
 
 
@@ -122,46 +121,6 @@ def kept_areas(cut: Cut, islands: list[Island], switched: set[str]) -> set[int]:
     }
     parts = networkx().connected_components(cut.whole.subgraph(area for island in islands for area in island.areas))
     return {area for part in parts if part & named and all(area in cut.reached for area in part) for area in part}
-
-
-class Near:
-    """Ends that nearly meet, by the coordinates of nodes."""
-
-    def __init__(self, points: dict[str, Point], cut: Cut) -> None:
-        self.points = points
-        self.in_order = sorted((point, node) for node, point in points.items())
-        self.at: dict[str, list[Edge]] = defaultdict(list)
-        if points:
-            for edge in cut.raw.joining():
-                for end in edge.ends:
-                    self.at[end].append(edge)
-
-    def text(self, nodes: set[str]) -> str:
-        """How far the nearest other node lies; nothing where no coordinates tell it."""
-        found = min((each for node in nodes for each in self.nearest(node, nodes)), default=None)
-        if found is None:
-            return ""
-        distance, node, other = found
-        ends = (f"{name} of {self.at[name][0].told}" if self.at[name] else name for name in (node, other))
-        return f"; {' and '.join(ends)} are {distance:.3g} apart"
-
-    def nearest(self, node: str, nodes: set[str]) -> Iterator[tuple[float, str, str]]:
-        """The nearest node outside of some, looked for by x on both sides."""
-        if node not in self.points:
-            return
-        x, y = self.points[node]
-        start = bisect_left(self.in_order, ((x, y), node))
-        best: tuple[float, str, str] | None = None
-        for side in (range(start + 1, len(self.in_order)), range(start - 1, -1, -1)):
-            for place in side:
-                (other_x, other_y), other = self.in_order[place]
-                if best is not None and abs(other_x - x) > best[0]:
-                    break
-                if other not in nodes:
-                    distance = hypot(other_x - x, other_y - y)
-                    best = min(best, (distance, node, other)) if best else (distance, node, other)
-        if best is not None:
-            yield best
 
 
 # Loops.
