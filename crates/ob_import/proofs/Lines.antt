@@ -1,6 +1,7 @@
 -- The rows of a text as the lines of a list, and what the list makes of a book.
 use Rattle.std.proofs.Common.{◌≡◌, ◌≤◌, ◌<◌, ◌∙◌, sym, ap, subst, refl, ℕ, ◌+◌, Bool, true, false, true≢false, List, [], ◌∷◌, ◌++◌, length, cond, Option, Some, None, Result, Ok, Err, inl, inr, nat_lt, arith, append_assoc, append-nil, length-append}
 use Rattle.std.specs.Bool.{MatchBool}
+use Rattle.std.specs.Prelude.{⊤}
 use Rattle.std.specs.Result.{is_ok}
 use Rattle.std.proofs.lemmas.Bool.{cases_Bool}
 use Rattle.std.proofs.lemmas.Bool.Decides.{nat_tests}
@@ -28,13 +29,13 @@ AllSaid number (row ∷ rows) [] = ⊥
 pub is_within : (number : ℕ) (row : Fields) (said : List ℕ × Command) → IsLine number row (Ok said) → (nat_lt 1_000_000 number ≡ false) × IsRow row (Ok said)
 is_within number row said is = elim (cases_Bool (nat_lt 1_000_000 number)) [
   | inl past ↦ absurd (let e : ◌≡◌ {A = Line} (Ok said) (Err (Full 1_000_000)) = rw past at is in cc)
-  | inr no ↦ (no, rw no at is)
+  | inr within ↦ (within, rw within at is)
 ]
 
 pub number_is : (number : ℕ) → nat_lt 1_000_000 number ≡ false → number ≤ 1_000_000
-number_is number no = elim (cases_Bool (nat_lt 1_000_000 number)) [
-  | inl past ↦ absurd (true≢false (sym past ∙ no))
-  | inr same ↦ grind (arith, nat_tests, no)
+number_is number within = elim (cases_Bool (nat_lt 1_000_000 number)) [
+  | inl past ↦ absurd (true≢false (sym past ∙ within))
+  | inr same ↦ grind (arith, nat_tests, within)
 ]
 
 pub said_more : (number : ℕ) (rows : List Fields) (list : List Line) (row : Fields) (said : List ℕ × Command) → AllSaid number rows list → IsLine (number + length list) row (Ok said)
@@ -43,7 +44,7 @@ said_more number [] [] row said all is = (let e : number + 0 ≡ number = omega 
 said_more number [] (line ∷ list) row said all is = absurd all
 said_more number (x ∷ rows) [] row said all is = absurd all
 said_more number (x ∷ rows) (Ok other ∷ list) row said all is =
-    (all.0, said_more (number + 1) rows list row said all.1 (let e : number + length (◌∷◌ {A = Line} (Ok other) list) ≡ number + 1 + length list = omega arith in subst (λ n. IsLine n row (Ok said)) e is))
+    (all.0, said_more (number + 1) rows list row said all.1 (let e : number + length (Ok other ∷ list) ≡ number + 1 + length list = omega arith in subst (λ n. IsLine n row (Ok said)) e is))
 said_more number (x ∷ rows) (Err refusal ∷ list) row said all is = absurd all
 
 -- all rows were read
@@ -61,7 +62,7 @@ lines_last number [] later [] row refusal all is = (let e : number + 0 ≡ numbe
 lines_last number [] later (line ∷ list) row refusal all is = absurd all
 lines_last number (x ∷ rows) later [] row refusal all is = absurd all
 lines_last number (x ∷ rows) later (Ok other ∷ list) row refusal all is =
-    (all.0, lines_last (number + 1) rows later list row refusal all.1 (let e : number + length (◌∷◌ {A = Line} (Ok other) list) ≡ number + 1 + length list = omega arith in subst (λ n. IsLine n row (Err refusal)) e is))
+    (all.0, lines_last (number + 1) rows later list row refusal all.1 (let e : number + length (Ok other ∷ list) ≡ number + 1 + length list = omega arith in subst (λ n. IsLine n row (Err refusal)) e is))
 lines_last number (x ∷ rows) later (Err other ∷ list) row refusal all is = absurd all
 
 -- so many rows at most say commands
@@ -85,7 +86,7 @@ line_stops c number row said refusal is err =
 none_stops : (c : ActState) (number : ℕ) (row : Fields) (refusal : Refusal) → IsLine number row (Err refusal) → Stops c number row refusal
 none_stops c number row refusal is = elim (cases_Bool (nat_lt 1_000_000 number)) [
   | inl past ↦ let e : ◌≡◌ {A = Line} (Err refusal) (Err (Full 1_000_000)) = rw past at is in let same : refusal ≡ Full 1_000_000 = cc in rw past same
-  | inr no ↦ rw no (inl (rw no at is))
+  | inr within ↦ rw within (inl (rw within at is))
 ]
 
 -- so many rows, from the first on, were taken, and all of them
@@ -124,6 +125,9 @@ module _ (b c : ActState) (done : List Fields) (added again number : ℕ) (taken
 never_ok : (refusal : Refusal) (place : ℕ) (d : ActState) → ◌≡◌ {A = Result ActState (ℕ × Refusal)} (Err (place, refusal)) (Ok d) → ⊥
 never_ok refusal place d e = cc
 
+same_stop : (a b : ℕ) (r q : Refusal) → ◌≡◌ {A = Result ActState (ℕ × Refusal)} (Err (a, r)) (Err (b, q)) → (a ≡ b) × (r ≡ q)
+same_stop a b r q e = (cc, cc)
+
 pub takes_all : (b c d : ActState) (done rows : List Fields) (added again number place : ℕ) (list : List Line) → Taken b c done added again → number ≡ added + again + 1 → AreLines number rows list
     → after_lines c place list ≡ Ok d → TakesAll b d (done ++ rows) × (length list ≡ length rows)
 takes_all b c d done [] added again number place [] taken at lines all =
@@ -134,12 +138,12 @@ takes_all b c d done (row ∷ rows) added again number place [] taken at lines a
 takes_all b c d done (row ∷ rows) added again number place (Err refusal ∷ list) taken at lines all = absurd (never_ok refusal place d all)
 takes_all b c d done (row ∷ rows) added again number place (Ok said ∷ list) taken at lines all =
     let a = under said.0 said.1 in
-    elim (answer c a) as (λ r. answer c a ≡ r → goes_on r place (after_lines (act c a) (place + 1) list) ≡ Ok d → TakesAll b d (done ++ row ∷ rows) × (length (◌∷◌ {A = Line} (Ok said) list) ≡ length (row ∷ rows))) [
+    elim (answer c a) as (λ r. answer c a ≡ r → goes_on r place (after_lines (act c a) (place + 1) list) ≡ Ok d → TakesAll b d (done ++ row ∷ rows) × (length (Ok said ∷ list) ≡ length (row ∷ rows))) [
       | Ok reply ↦ λ is rest.
           let one = counts (is_accepted c a) in
           let it = takes_all b (act c a) d (done ++ row ∷ []) rows (added + cond (is_accepted c a) 1 0) (again + cond (is_accepted c a) 0 1) (number + 1) (place + 1) list
           (taken_line b c done added again number taken at row said lines.0 (ap is_ok is)) (omega (arith, at, one)) lines.1 rest in
-          let same : length (◌∷◌ {A = Line} (Ok said) list) ≡ length (row ∷ rows) = omega (arith, it.1) in
+          let same : length (Ok said ∷ list) ≡ length (row ∷ rows) = omega (arith, it.1) in
           (subst (TakesAll b d) (append_assoc done (row ∷ []) rows) it.0, same)
       | Err refusal ↦ λ is rest. absurd (never_ok refusal place d rest)
     ] refl all
@@ -173,8 +177,8 @@ takes_some b c done (row ∷ rows) added again number place (Ok said ∷ list) e
           (takes_some b (act c a) (done ++ row ∷ []) rows (added + cond (is_accepted c a) 1 0) (again + cond (is_accepted c a) 0 1) (number + 1) (place + 1) list end refused
           (taken_line b c done added again number taken at row said lines.0 (ap is_ok is)) (omega (arith, at, one)) (omega (arith, from, one)) lines.1 rest)
       | Err refusal ↦ λ is rest.
-          let here : place ≡ end = cc in
-          let same : refusal ≡ refused = cc in
+          let here : place ≡ end = (same_stop place end refusal refused rest).0 in
+          let same : refusal ≡ refused = (same_stop place end refusal refused rest).1 in
           record {
             state = c;
             added = added;

@@ -81,7 +81,7 @@ pub line_full : (number : ℕ) (row : Fields) → nat_lt 1_000_000 number ≡ tr
 line_full number row past = rw past refl
 
 pub line_read : (number : ℕ) (row : Fields) (line : Line) → nat_lt 1_000_000 number ≡ false → IsRow row line → IsLine number row line
-line_read number row line no is = rw no is
+line_read number row line within is = rw within is
 
 -- ---- a header
 pub header_none : (left after : Option (List Fields)) (found : Bool) (row : Fields) (all : List Fields) → left ≡ Some all → TakesRow left after found row → cond found (is_header row) false ≡ false → after_header all ≡ None
@@ -95,7 +95,7 @@ pub header_there : (left after : Option (List Fields)) (row : Fields) (all : Lis
     → (rest : List Fields) × (after ≡ Some rest) × (after_header all ≡ Some rest)
 header_there left after row all is takes header =
     let next = took left after all row is takes in
-    (next.0, next.1, rw (next.2, header) refl)
+    (next.0, next.1, ap after_header next.2 ∙ (let e : after_header (row ∷ next.0) ≡ Some next.0 = rw header refl in e))
 
 -- ---- why the rows of a text in memory can't be taken
 pub memory_only : (fault : Fault) → HasCause fault (true ≡ false) → fault ≢ faults.Store → fault ≡ faults.OutOfMemory

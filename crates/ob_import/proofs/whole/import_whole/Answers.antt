@@ -7,7 +7,7 @@ use Rattle.ob_import.proofs.whole.import_whole.Goals as goal
 pub returns : goal.returns
 returns g c =
     let some : IsSome c.args.keeper.now.book = search rules in
-    let fits = c.in-Ok.ensures.whole c.if-not-whole.false in
+    let fits = c.in-Ok.ensures.whole c.if-not-gathered.false in
     whole_of g.S.Store g.R.Read.remaining c.args.keeper.now c.import_lines.new.keeper c.args.reader.now c.gather.new.reader c.in-Ok.gathered.bytes.items c.import_lines.result some c.in-Ok.ensures.consumed fits.0 fits.1
     (rw c.deref.ensures.value at c.import_lines.ensures)
 
@@ -16,10 +16,10 @@ returns-in_default g c =
     let some : IsSome c.args.keeper.now.book = search rules in
     nothing_of g.S.Store g.R.Read.remaining c.args.keeper.now c.args.reader.now c.gather.new.reader faults.OutOfMemory _ some tt memory_no_store (ap Err c.nothing_added.ensures)
 
-pub returns-then-not-whole : goal.returns-then-not-whole
-returns-then-not-whole g c =
+pub returns-then-not-gathered : goal.returns-then-not-gathered
+returns-then-not-gathered g c =
     let some : IsSome c.args.keeper.now.book = search rules in
-    nothing_of g.S.Store g.R.Read.remaining c.args.keeper.now c.args.reader.now c.gather.new.reader faults.Input _ some (c.in-Ok.ensures.cut c.if-not-whole.true) input_no_store (ap Err c.nothing_added.ensures)
+    nothing_of g.S.Store g.R.Read.remaining c.args.keeper.now c.args.reader.now c.gather.new.reader faults.Input _ some (c.in-Ok.ensures.cut c.if-not-gathered.true) input_no_store (ap Err c.nothing_added.ensures)
 
 pub returns-then-is_none : goal.returns-then-is_none
 returns-then-is_none g c =

@@ -15,8 +15,8 @@ text-preserved g c =
     let says : IsLine (length c.text.lines.items + 1) c.take_row.new.row line = subst (λ n. IsLine n c.take_row.new.row line) (sym c.text.invariant.0) c.line_of-line.ensures in
     let ok = sym c.is_ok-goes_on.ensures.value ∙ c.if-not-goes_on.false in
     let grown : length (c.text.lines.items ++ line ∷ []) ≡ length c.text.lines.items + 1 = length-append c.text.lines.items (line ∷ []) in (
-      (let e : length (c.text.lines.items ++ line ∷ []) + 1 ≡ c.text.number + 1 = omega (arith, grown, c.text.invariant.0) in subst (λ l. length l + 1 ≡ c.text.number + 1) (sym c.in-Ok-push.ensures.items) e),
-      λ all is. subst (SoRead all (left c.take_row.new.rows)) (sym c.in-Ok-push.ensures.items)
+      (let e : length (c.text.lines.items ++ line ∷ []) + 1 ≡ c.text.number + 1 = omega (arith, grown, c.text.invariant.0) in subst (λ l. length l + 1 ≡ c.text.number + 1) (sym c.in-Ok.ensures.items) e),
+      λ all is. subst (SoRead all (left c.take_row.new.rows)) (sym c.in-Ok.ensures.items)
           (read_next all (left c.text.rows) (left c.take_row.new.rows) c.text.lines.items c.take_row.new.row line (c.text.invariant.1 all is) takes says ok),
     )
 
@@ -35,7 +35,7 @@ returns-then-not-goes_on-clause-lines g c all is =
     let line = c.line_of-line.result in
     let says : IsLine (length c.text.lines.items + 1) c.take_row.new.row line = subst (λ n. IsLine n c.take_row.new.row line) (sym c.text.invariant.0) c.line_of-line.ensures in
     let ends = sym c.is_ok-goes_on.ensures.value ∙ c.if-not-goes_on.true in
-    subst (AreLines 1 all) (sym c.in-Ok-push.ensures.items)
+    subst (AreLines 1 all) (sym c.in-Ok.ensures.items)
     (read_end all (left c.text.rows) (left c.take_row.new.rows) c.text.lines.items c.take_row.new.row line (c.text.invariant.1 all is) takes says ends)
 
 pub returns-clause-lines : goal.returns-clause-lines
