@@ -1,4 +1,5 @@
 use Rattle.std.proofs.Common.{◌≢◌, inl, inr, sym, ◌∙◌, arith, refl}
+use Rattle.std.specs.Prelude.{⊤}
 use Rattle.sqlite.specs.Held.{state}
 use Rattle.sqlite.specs.State.{HasCleanDisk}
 use Rattle.ob_command.specs.Commands.{body_text}
