@@ -7,3 +7,4 @@ mod Summed
 mod Tallied
 mod Texts
 mod Whole
+mod Zeros

@@ -9,14 +9,15 @@ use Rattle.ob_state.specs.State.{BookState}
 use Rattle.ob_selections.specs.Tallies.{tally_of}
 use Rattle.ob_selections.proofs.Added.{at_most_more}
 use Rattle.ob_selections.proofs.Summed.{below, below_all, below_more, below_none, figures_are, on_section, over, summed_more}
+use Rattle.ob_selections.proofs.Zeros.{zero_at, zero_at_most}
 use Rattle.ob_selections.proofs.counting.figures_of.Goals as goal
 
 pub loop-node-init : goal.loop-node-init
 loop-node-init g c =
     let b : BookState = c.args.book.now.state in
     record {
-      summed = rw (below_none b.customers) (record { sustained = refl; seconds = refl; momentary = refl; customers = refl; places = refl; each = λ j small. search rules; served = refl });
-      small = record { sustained = omega arith; seconds = omega arith; momentary = omega arith; customers = omega arith; each = λ j small. search rules; served = omega arith };
+      summed = rw (below_none b.customers) (record { sustained = refl; seconds = refl; momentary = refl; customers = refl; places = refl; each = λ j small. zero_at 10 j; served = refl });
+      small = record { sustained = omega arith; seconds = omega arith; momentary = omega arith; customers = omega arith; each = λ j small. zero_at_most 10 j _; served = omega arith };
       length = search rules;
     }
 
