@@ -4,8 +4,9 @@
 
 It makes the year as CSV, then a book: `init`, `import`, the same import again, `table`, `export`, `interruptions`,
 `audit`. Its rows are then read by Python's sqlite3 (benches/read_rows.py), which a load or an audit is compared with.
-Then the plain office (benches/plain_office.py) imports the same text, and all rows of both books' eleven tables are
-compared. Both books lie in the folder, bench-data/ where none is named: a commit takes what its disk takes.
+A second book takes the same text by `import --whole`, a third by the plain office (benches/plain_office.py). All rows
+of the eleven tables of the three books are compared. The books lie in the folder, bench-data/ where none is named: a
+commit takes what its disk takes.
 """
 
 import argparse
@@ -77,15 +78,16 @@ def main() -> int:
     parser.add_argument("--folder", type=Path, default=DATA, help="where books are made")
     words = parser.parse_args()
     words.folder.mkdir(exist_ok=True)
-    text, book, plain = (words.folder / name for name in ["import.csv", "import.db", "import-plain.db"])
+    names = ["import.csv", "import.db", "import-whole.db", "import-plain.db"]
+    text, book, whole, plain = (words.folder / name for name in names)
     moves, rows = words.folder / "import-moves.csv", words.folder / "import-interruptions.csv"
     make_text(text, words)
-    clear(book, plain)
+    clear(book, whole, plain)
     print("| Job | clock, s | processor, s | peak, MB | says |")
     print("|---|---|---|---|---|")
-    first, days = FIRST_DATE.isoformat(), str(DAYS)
+    period = ["--first", FIRST_DATE.isoformat(), "--days", str(DAYS), "--zone", "UTC0"]
     job = [words.program]
-    show("init", [*job, "init", "--book", book, "--first", first, "--days", days, "--zone", "UTC0"])
+    show("init", [*job, "init", "--book", book, *period])
     show("import", [*job, "import", "--book", book, text])
     show("the same import again", [*job, "import", "--book", book, text])
     show("table", [*job, "table", "--book", book])
@@ -93,9 +95,11 @@ def main() -> int:
     show("interruptions", [*job, "interruptions", "--book", book, rows])
     show("audit", [*job, "audit", "--book", book])
     show("its rows read in Python", [sys.executable, BENCHES / "read_rows.py", book])
+    subprocess.run([*job, "init", "--book", whole, *period], check=True, stdout=subprocess.DEVNULL)
+    show("import --whole", [*job, "import", "--whole", "--book", whole, text])
     show("plain office, import", [sys.executable, BENCHES / "plain_office.py", text, "--book", plain])
-    table = first_difference(book, plain)
-    print(f"the books differ in table {table}" if table else "all rows of both books are equal")
+    table = first_difference(book, plain) or first_difference(whole, plain)
+    print(f"the books differ in table {table}" if table else "all rows of the three books are equal")
     return 1 if table else 0
 
 

@@ -18,7 +18,10 @@ OVER_ORACLE = (  # programs over the oracle's modules
     "tools/tests/taken_rows.py",
 )
 WAREHOUSE_PAGE = "docs/operate/WAREHOUSE.md"  # its blocks want a PostgreSQL server
-TYPED = ("oracle", "benches", "ci", "tests", "tools", "screen", "packaging", "examples/ieee", "examples/network")
+TYPED = (
+    *("oracle", "benches", "ci", "tests", "tools", "screen", "packaging"),
+    *("examples/ieee", "examples/network", "examples/utility"),
+)
 SHARES = (
     "[ab]",
     "[cd]",
@@ -136,6 +139,7 @@ def with_program(root: Path) -> list[Suite]:
     found = [
         *(Suite(f"tools' tests {share}", tests_in("tools/tests", "tools", share), by_tests) for share in shares),
         Suite("program and oracle", (sys.executable, "oracle/compare.py"), as_one),
+        Suite("files and sockets", (sys.executable, "tests/test_files_sockets.py", "-v"), by_tests),
         Suite("pages", (*paste, *(page for page in pages if page not in with_server)), by_commands),
     ]
     if first_run_shown(root):

@@ -1,4 +1,4 @@
-"""The indices of a book by feeder, month, cause or section as CSV, over each customer's own interruptions."""
+"""The indices of a book by feeder, month, day, cause or section as CSV, over each customer's own interruptions."""
 
 from collections.abc import Callable, Iterator
 from dataclasses import dataclass
@@ -7,7 +7,7 @@ from fractions import Fraction
 from model import Book, Run, quotient
 from state import End
 
-BY = ["whole", "feeder", "month", "cause", "section"]
+BY = ["whole", "feeder", "month", "day", "cause", "section"]
 INDICES = ["saifi", "saidi", "caidi", "caifi", "asai", *(f"cemi_{n}" for n in range(1, 11)), "maifi"]
 PLACES = {"asai": 5}  # decimals; 3 of the others
 COLUMNS = "key,set,period_seconds,customer_seconds_served,customers_served,customers_served_3"
@@ -47,6 +47,10 @@ def of_cause(book: Book, code: int) -> Callable[[Interruption], bool]:
     return lambda interruption: book.cause_of(interruption[0]) == code
 
 
+def of_day(book: Book, day: int) -> Callable[[Interruption], bool]:
+    return lambda interruption: book.period.day_of(interruption[1]) == day
+
+
 def selections_of(book: Book, by: str) -> Iterator[Selection]:
     """One for each key, in order."""
     period = book.period
@@ -61,6 +65,9 @@ def selections_of(book: Book, by: str) -> Iterator[Selection]:
         for month in sorted(set(months)):
             first = months.index(month)
             yield Selection(month, everyone, each_one, (first, first + months.count(month)))
+    elif by == "day":
+        for number, day in enumerate(period.days[:-1]):
+            yield Selection(day.isoformat(), everyone, of_day(book, number), whole)
     elif by == "cause":
         for code, name in sorted(book.causes.items()):
             yield Selection(name, everyone, of_cause(book, code), whole)

@@ -8,14 +8,15 @@ _outagebook() {
     done
     case $before in
         --book) COMPREPLY=($(compgen -f -- "$current")); return ;;
-        --by) COMPREPLY=($(compgen -W 'feeder month cause section whole' -- "$current")); return ;;
+        --by) COMPREPLY=($(compgen -W 'feeder month day cause section whole' -- "$current")); return ;;
         --first|--days|--zone|--port|--streams|--over) COMPREPLY=(); return ;;
     esac
     case $subcommand in
         '') options='total init import export interruptions table indices audit migrate serve help --help --version' ;;
         total) options='--help' ;;
         init) options='--book --first --days --zone --help' ;;
-        import|export|interruptions) options='--book --help' ;;
+        import) options='--book --whole --help' ;;
+        export|interruptions) options='--book --help' ;;
         table|audit|migrate) options='--book --help' ;;
         indices) options='--book --by --over --help' ;;
         serve) options='--book --port --streams --help' ;;

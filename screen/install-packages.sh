@@ -6,7 +6,7 @@
 # With --screen-only these are the packages that the screen itself needs, without it those of its tests too. A proxy with
 # TLS and logins is the administrator's choice: the tests use nginx.
 set -eu
-packages="python3 python3-aiohttp"
+packages="python3 python3-aiohttp python3-networkx"
 if [ $# -eq 0 ]; then
     packages="$packages chromium chromium-driver curl nginx-light openssl poppler-utils python3-selenium"
 elif [ "$*" != --screen-only ]; then

@@ -80,15 +80,17 @@ def wait_for_workers(count: int) -> None:
     subprocess.run([PYTHON, "-W", "ignore", "-c", code], check=True)
 
 
-def sum_words(folder: Path, districts: int, *more: str) -> list[str]:
+def sum_words(folder: Path, districts: int, program: str, *more: str) -> list[str]:
     books = [str(folder / f"d{number}.db") for number in range(1, districts + 1)]
     tables = [word for number in range(1, districts + 1) for word in ("--table", str(folder / f"d{number}.txt"))]
-    return [PYTHON, str(ROOT / "tools/sum.py"), *books, *tables, "--own-numbers", *more]
+    return [PYTHON, str(ROOT / "tools/sum.py"), *books, *tables, "--program", program, "--own-numbers", *more]
 
 
-def timed_sum(folder: Path, districts: int, *more: str) -> tuple[str, float]:
+def timed_sum(folder: Path, districts: int, program: str, *more: str) -> tuple[str, float]:
     began = time.monotonic()
-    said = subprocess.run(sum_words(folder, districts, *more), check=True, capture_output=True, text=True).stdout
+    said = subprocess.run(
+        sum_words(folder, districts, program, *more), check=True, capture_output=True, text=True
+    ).stdout
     return said, time.monotonic() - began
 
 
@@ -98,9 +100,9 @@ def told(what: str, said: str, wanted: str, seconds: float) -> None:
     print(f"{what}: the same sum in {seconds:.1f} s", flush=True)
 
 
-def try_hosts(folder: Path, districts: int) -> None:
+def try_hosts(folder: Path, districts: int, program: str) -> None:
     """Sums on one machine, on one host, two and three, and on three of which one is killed in the midst."""
-    wanted, seconds = timed_sum(folder, districts, "--processes", "1")
+    wanted, seconds = timed_sum(folder, districts, program, "--processes", "1")
     told("one machine, one process", wanted, wanted, seconds)
     with ExitStack() as stack:
         add_bridge(stack)
@@ -111,10 +113,10 @@ def try_hosts(folder: Path, districts: int) -> None:
         for number, host in enumerate(hosts, 1):
             workers.append(start_worker(stack, host, number, folder))
             wait_for_workers(number)
-            said, seconds = timed_sum(folder, districts, "--cluster", ADDRESS)
+            said, seconds = timed_sum(folder, districts, program, "--cluster", ADDRESS)
             told(f"hosts {number}", said, wanted, seconds)
         began = time.monotonic()
-        words = sum_words(folder, districts, "--cluster", ADDRESS)
+        words = sum_words(folder, districts, program, "--cluster", ADDRESS)
         with subprocess.Popen(words, stdout=subprocess.PIPE, text=True) as child:
             time.sleep(seconds / 2)
             workers[1].kill()
@@ -130,13 +132,15 @@ def main() -> None:
     words.add_argument("--entries", type=int, default=2_000)
     words.add_argument("--made", type=int, default=4, help="so many books are made, the others are copies of them")
     words.add_argument("--plain", action="store_true", help="make the books by the plain office")
-    words.add_argument("--program", default=PROGRAM, help="what makes the books, and prints their tables")
+    words.add_argument(
+        "--program", default=PROGRAM, help="what makes the books, prints their tables, and lists their interruptions"
+    )
     given = words.parse_args()
     if os.geteuid() or not shutil.which("ip"):
         sys.exit("cluster_hosts: it needs root and iproute2")
     given.folder.mkdir(parents=True, exist_ok=True)
     make_books(given.folder, given.districts, given)
-    try_hosts(given.folder.resolve(), given.districts)
+    try_hosts(given.folder.resolve(), given.districts, str(Path(given.program).resolve()))
 
 
 if __name__ == "__main__":

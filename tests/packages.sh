@@ -40,7 +40,7 @@ answers() { # PORT: a desk and its screen, started by their units, answer: the s
 import json, sys, time, urllib.request
 def text(url):
     asked = urllib.request.Request(url, headers={"Host": "screen.example.org", "X-Remote-User": "desk-anna"})
-    for turn in range(120):
+    for turn in range(600):  # five minutes, on a machine with much other work
         try:
             return urllib.request.urlopen(asked).read().decode()
         except OSError as error:

@@ -2,7 +2,7 @@
 
     python3 tests/refused_tests.py [--program FILE] [--first N] [--every N] [--jobs N] [TEST ..]
 
-The program is one of tests, as `rt test` builds it: that of crates/ob_stop_tests where none is named. Without names the tests
+The program is one of tests, as `rt test` builds it: that of crates/ob_fault_tests where none is named. Without names the tests
 are those of TESTS. Each is run with its first request refused, with its second, and so on until a run meets none; a run is a
 process of its own, so that no other test's requests are counted. At the first run that fails it ends with status 1. What is
 refused is chosen by refuse.c, which `cc` builds: so this wants Linux with the GNU C library.
@@ -21,14 +21,14 @@ from pathlib import Path
 from places import ROOT
 from refused_memory import built_library
 
-PROGRAM = ROOT / "crates/ob_stop_tests/out/ob_stop_tests_tests"
+PROGRAM = ROOT / "crates/ob_fault_tests/out/ob_fault_tests_tests"
 TESTS = {
-    "ob_stop_tests_tests": [
+    "ob_fault_tests_tests": [
         "refusals::commands_where_memory_is_refused",
         "refusals::an_import_where_memory_is_refused",
         "refusals::a_migration_where_memory_is_refused",
     ],
-    "ob_office_tests_tests": ["jobs::memory::memory_refused"],
+    "ob_jobs_tests_tests": ["jobs::memory::memory_refused"],
     "ob_desk_tests_tests": ["memory::memory_refused"],
     "ob_total_tests_tests": ["streams::memory_refused"],
 }

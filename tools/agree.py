@@ -1,4 +1,4 @@
-#!/usr/bin/env python3
+#!/usr/bin/python3
 """An OMS's own counts beside a book's: outage_tools/agree.py."""
 
 import sys

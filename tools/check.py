@@ -1,4 +1,4 @@
-#!/usr/bin/env python3
+#!/usr/bin/python3
 """Exports looked at before a book is made: outage_tools/check.py."""
 
 import sys

@@ -1,4 +1,4 @@
-#!/usr/bin/env python3
+#!/usr/bin/python3
 """See outage_tools/districts.py."""
 
 import sys

@@ -1,4 +1,4 @@
-#!/usr/bin/env python3
+#!/usr/bin/python3
 """A checked book of four exports, by one command: outage_tools/make.py."""
 
 import sys

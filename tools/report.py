@@ -1,4 +1,4 @@
-#!/usr/bin/env python3
+#!/usr/bin/python3
 """A page of a book's period: outage_tools/report.py."""
 
 import sys

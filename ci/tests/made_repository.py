@@ -56,6 +56,7 @@ FILES = {
     "tools/tests/test_tools.py": TEST,
     "oracle/test_model.py": TEST,
     "oracle/compare.py": COMPARE,
+    "tests/test_files_sockets.py": TEST,
     "tests/test_made_years.py": TEST,
     "ci/tests/test_gate.py": TEST,
     ".gitignore": "out/\n__pycache__/\n",

@@ -144,8 +144,8 @@ class Order(unittest.TestCase):
         self.assertIn("ob_store", calls.trunk)
         self.assertIn("ob_book", calls.beside["ob_book_tests"])
         self.assertIn("ob_net", calls.beside["ob_net"])
-        self.assertNotIn("ob_office_tests", calls.beside)
-        self.assertNotIn("ob_tables", calls.beside)
+        self.assertNotIn("ob_jobs_tests", calls.beside)
+        self.assertNotIn("ob_sql_rows", calls.beside)
 
 
 if __name__ == "__main__":

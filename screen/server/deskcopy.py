@@ -1,5 +1,9 @@
 """A desk over a copy of the book, in a folder that goes away: steps are tried on it one after the other and taken back. It
-follows what the book's own desk accepts, and is asked what changes nothing while that one gives no answer."""
+follows what the book's own desk accepts, and is asked what changes nothing while that one gives no answer.
+
+What was tried leaves the copy's entries with other numbers and revisions than the book's, and nothing else: a switching is
+withdrawn again, a correction is corrected back, and a withdrawal is tried as a correction to the period's first second and the
+position that the device has there anyway: the entry acts as if it were withdrawn, and is corrected back."""
 
 from __future__ import annotations
 
@@ -8,7 +12,7 @@ import os
 import secrets
 import shutil
 import tempfile
-from collections import deque
+from collections import Counter, deque
 from collections.abc import AsyncIterator, Awaitable, Callable, Iterator, Sequence
 from contextlib import asynccontextmanager, contextmanager
 from dataclasses import dataclass, replace
@@ -19,14 +23,15 @@ from typing import Any
 from .answers import NotPlanned, Plan, SectionChange, Supply, command_body, moves_in, plan_in, supply_in
 from .apart import Apart
 from .desk import Answer, Away, Desk, OwnDesk
-from .reader import BookError, Command, Moves, copy_of, counts_of
-from .state import Refused
+from .reader import BookError, Command, Entry, Moves, copy_of, counts_of
+from .state import Refused, State
 
 MEMORY = Path("/dev/shm")
 ROOM = 4  # times the size of the book, for what is tried
 READY_SECONDS = 12.0  # for one's turn, and for a copy that is being made
 MOST_LATER = 1_000  # commands that a copy follows; after more of them there is a new one
 MOST_MADE = 20_000  # entries that were tried and taken back in a copy: a book takes 50,000
+STALE, WITHDRAWN = 7, 8  # refusals
 OPPOSITES = {"mark": "unmark", "unmark": "mark"}
 Step = Sequence[str]  # a command's kind and its fields
 Order = Sequence[int]  # places of steps
@@ -75,6 +80,7 @@ class DeskCopy(OwnDesk):
             maxlen=MOST_LATER
         )  # by the commands that it followed
         self.made = 0  # entries that the copy has
+        self.revisions: Counter[int] = Counter()  # by how many the copy's revision of an entry is later
 
     # The copy, and its following.
 
@@ -88,6 +94,7 @@ class DeskCopy(OwnDesk):
             return str(error)
         self.entries = list(range(1, self.made + 1))
         self.numbers = {number: number for number in self.entries}
+        self.revisions.clear()
         self.book = Path(self.folder.name) / "book.db"
         try:
             return await super().run_once()
@@ -172,7 +179,7 @@ class DeskCopy(OwnDesk):
 
     async def act(self, kind: str, fields: Sequence[str], ref: str = "") -> Moves:
         """Sends a command to the copy for real."""
-        return await self.send(kind, self.own(kind, fields), ref or f"TRY-{secrets.token_hex(12).upper()}")
+        return await self.send(kind, self.own(kind, fields), ref or new_reference())
 
     async def send(self, kind: str, fields: Sequence[str], ref: str) -> Moves:
         answer = await self.desk.ask("POST", "/commands", command_body(kind, fields, ref))
@@ -182,9 +189,13 @@ class DeskCopy(OwnDesk):
         return moves_in(answer.json())
 
     def own(self, kind: str, fields: Sequence[str]) -> Sequence[str]:
-        """The fields of a command with the copy's own number of an entry; those of an entry that isn't there stay."""
+        """The fields of a command with the copy's own number and revision of an entry; those of an entry that isn't there, or
+        that can't be read, stay."""
         number = int(fields[0]) if kind in ("correct", "withdraw") and fields[0].isdecimal() else 0
-        return [str(self.entries[number - 1]), *fields[1:]] if 1 <= number <= len(self.entries) else fields
+        if not 1 <= number <= len(self.entries):
+            return fields
+        revision = str(int(fields[1]) + self.revisions[number]) if fields[1].isdecimal() else fields[1]
+        return [str(self.entries[number - 1]), revision, *fields[2:]]
 
     # What is asked of it.
 
@@ -201,7 +212,13 @@ class DeskCopy(OwnDesk):
             return await self.own_plan(kind, fields)
 
     async def own_plan(self, kind: str, fields: Sequence[str]) -> Plan:
-        return plan_in(await self.desk.ask("POST", "/plan", command_body(kind, self.own(kind, fields))))
+        try:
+            return plan_in(await self.desk.ask("POST", "/plan", command_body(kind, self.own(kind, fields))))
+        except NotPlanned as refused:
+            if refused.reply.get("refused") != STALE:
+                raise
+            revision = int(refused.reply["detail"]) - self.revisions[int(fields[0])]
+            raise NotPlanned({**refused.reply, "detail": revision}) from None
 
     async def changes_after(self, number: int) -> tuple[int, list[SectionChange]] | None:
         """The last command that the copy has, and how those after a number changed outages, in their order; None where it hasn't
@@ -224,34 +241,74 @@ class DeskCopy(OwnDesk):
             await self.act(OPPOSITES[kind], fields)
             return before, after
 
-    async def walk(self, steps: Sequence[Step], orders: Sequence[Order]) -> list[list[Tried]]:
-        """What each of some steps would do on what those before it leave, for each order of them; then all is taken back."""
+    async def walk(self, state: State, steps: Sequence[Step], orders: Sequence[Order]) -> list[list[Tried]]:
+        """What each of some steps would do on what those before it leave, for each order of them; then all is taken back. The
+        state is that of the book."""
         async with self.turn():
-            return [await self.walk_once(steps, order, order is orders[0]) for order in orders]
+            return [await self.walk_once(state, steps, order, order is orders[0]) for order in orders]
 
-    async def walk_once(self, steps: Sequence[Step], order: Order, looks: bool) -> list[Tried]:
+    async def walk_once(self, state: State, steps: Sequence[Step], order: Order, looks: bool) -> list[Tried]:
         tried: list[Tried] = []
-        made: list[str] = []
+        before, made = state, self.made
         try:
             for place in order:
                 kind, *fields = steps[place]
                 try:
                     plan = await self.own_plan(kind, fields)
+                    refuse_withdrawn(before, state, kind, fields)
                 except NotPlanned as refused:
                     raise NotPlanned({**refused.reply, "step": place}) from None
                 looked = await self.own_supply(int(fields[2])) if looks and kind == "switch" else None
                 tried.append(Tried(plan, looked))
                 if place != order[-1]:
-                    await self.act(kind, fields)
-                    made.append(kind)
+                    await self.act(*(harmless(state, *fields) if kind == "withdraw" else (kind, fields)))
+                    state = state.after(kind, *fields)
             return tried
         finally:
-            await self.take_back(made)
+            await self.take_back(before, state, made)
 
-    async def take_back(self, kinds: Sequence[str]) -> None:
-        """Withdraws the switchings that were tried last; what else was tried leaves another book."""
-        if any(kind != "switch" for kind in kinds):
-            self.throw_away()
-        else:
-            for number in range(self.made, self.made - len(kinds), -1):
-                await self.send("withdraw", [str(number), "1"], f"BACK-{secrets.token_hex(12).upper()}")
+    async def take_back(self, before: State, after: State, made: int) -> None:
+        """Corrects the entries back that were changed, and withdraws those that were made."""
+        for entry, tried in zip(before.entries, after.entries):
+            if tried.revision > entry.revision:
+                revision = tried.revision + self.revisions[entry.number]
+                fields = [
+                    str(self.entries[entry.number - 1]),
+                    str(revision),
+                    position_of(entry.closes),
+                    *rest_of(entry, entry.second),
+                ]
+                await self.send("correct", fields, new_reference())
+                self.revisions[entry.number] += tried.revision + 1 - entry.revision
+        for number in range(self.made, made, -1):
+            await self.send("withdraw", [str(number), "1"], new_reference())
+
+
+def new_reference() -> str:
+    return f"TRY-{secrets.token_hex(12).upper()}"
+
+
+def position_of(closes: bool) -> str:
+    return "close" if closes else "open"
+
+
+def rest_of(entry: Entry, second: int) -> list[str]:
+    return [str(second), str(entry.cause), entry.crew]
+
+
+def harmless(state: State, number: str, revision: str) -> tuple[str, list[str]]:
+    """The correction with which an entry acts as if it were withdrawn."""
+    entry, first = state.entries[int(number) - 1], state.period.first
+    device = state.devices[entry.device]
+    last = state.last_entry(device, first, entry.number)
+    return "correct", [number, revision, position_of(last.closes if last else device.is_closed), *rest_of(entry, first)]
+
+
+def refuse_withdrawn(before: State, state: State, kind: str, fields: Sequence[str]) -> None:
+    """An entry that a step before has withdrawn is kept in the copy: the book refuses what changes it. One that is corrected to
+    the second at which those stand might act before them."""
+    if kind != "switch" and not state.entries[int(fields[0]) - 1].is_kept:
+        raise NotPlanned({"refused": WITHDRAWN, "name": "Withdrawn"})
+    are_kept = all(entry.is_kept or not known.is_kept for known, entry in zip(before.entries, state.entries))
+    if kind == "correct" and int(fields[3]) == state.period.first and not are_kept:
+        raise Away("behind a withdrawal an entry is corrected to the period's first second")

@@ -1,13 +1,15 @@
-"""The one-line diagram: where each node stands, by layers from GRID over devices that are normally closed."""
+"""The one-line diagram: where each node stands, by layers from GRID over devices that are normally closed; what has supply."""
 
 from __future__ import annotations
 
 from collections.abc import Sequence
 from dataclasses import dataclass
 
+from .answers import Supply
 from .reader import Device
+from .state import State
 
-GRID = 0
+GRID, BUS = 0, 1  # a node's number; a kind of nodes
 
 
 @dataclass(frozen=True)
@@ -87,17 +89,24 @@ def normal_ways(nodes: int, devices: Sequence[Device], layout: Layout, closed: S
     return holds
 
 
-def reached(nodes: int, devices: Sequence[Device], closed: Sequence[bool]) -> list[bool]:
-    """Whether a walk of closed devices leads from GRID to each node."""
-    beside: list[list[int]] = [[] for _ in range(nodes)]
-    for device, is_closed in zip(devices, closed):
-        if is_closed:
-            beside[device.a].append(device.b)
-            beside[device.b].append(device.a)
-    seen, found = [node == GRID for node in range(nodes)], [GRID]
+def closed_devices(state: State, supply: Supply) -> list[bool]:
+    """Whether each device is closed, and in the network."""
+    return [supply.closed[each.name] and supply.alive[each.name] for each in state.devices]
+
+
+def supplied_nodes(state: State, supply: Supply) -> list[bool]:
+    """Whether each node has supply: of sections the desk says so. It names no buses: one has supply where closed devices lead
+    to it from GRID or a section that has."""
+    out = {row.section for row in supply.outages}
+    found = [node for node, (name, kind, _) in enumerate(state.nodes) if kind != BUS and name not in out]
+    seen = set(found)
+    beside: dict[int, list[int]] = {}
+    for device, is_closed in zip(state.devices, closed_devices(state, supply)):
+        for node, other in ((device.a, device.b), (device.b, device.a)) if is_closed else ():
+            if state.nodes[other][1] == BUS:
+                beside.setdefault(node, []).append(other)
     for node in found:
-        for other in beside[node]:
-            if not seen[other]:
-                seen[other] = True
-                found.append(other)
-    return seen
+        buses = [other for other in beside.get(node, ()) if other not in seen]
+        seen.update(buses)
+        found += buses
+    return [node in seen for node in range(len(state.nodes))]

@@ -2,7 +2,6 @@
 
 from __future__ import annotations
 
-import copy
 import json
 from collections import defaultdict
 from collections.abc import Sequence
@@ -21,7 +20,7 @@ from .views import Json, entry_view, reference_of
 
 MOST_STEPS = 30
 SHOWN = ("words", "reason", "total", "future", "sections", "hints")  # of the forecast of each step
-KINDS = ("switch", "correct", "withdraw")
+SECONDS = {"switch": 3, "correct": 4}  # where a step has its second
 
 
 def steps_in(text: str) -> list[Step]:
@@ -37,9 +36,10 @@ def steps_in(text: str) -> list[Step]:
 
 def is_step(found: object) -> bool:
     words = [each for each in found if isinstance(each, str)] if isinstance(found, list) else []
-    if words != found or not words or words[0] not in KINDS or len(words) != 1 + len(FIELDS[words[0]]):
+    if words != found or not words or words[0] not in (*SECONDS, "withdraw") or len(words) != 1 + len(FIELDS[words[0]]):
         return False
-    return words[0] != "switch" or (words[3].isdecimal() and len(words[3]) < 12)
+    second = words[SECONDS[words[0]]] if words[0] in SECONDS else "0"
+    return second.isdecimal() and len(second) < 12
 
 
 async def forecast(office: Office, steps: Sequence[Step]) -> Json:
@@ -48,7 +48,7 @@ async def forecast(office: Office, steps: Sequence[Step]) -> Json:
     state, in_time = office.state, order_in_time(steps)
     order = order_to_send(state, steps, in_time)
     try:
-        tried, *sent = await office.copy.walk(steps, [in_time] if order == in_time else [in_time, order])
+        tried, *sent = await office.copy.walk(state, steps, [in_time] if order == in_time else [in_time, order])
     except NotPlanned as refused:
         kind, *fields = steps[refused.reply["step"]]
         raise Refused(f"step {refused.reply['step'] + 1}: {refusal_words(state, kind, fields, refused)}") from None
@@ -57,7 +57,7 @@ async def forecast(office: Office, steps: Sequence[Step]) -> Json:
     rows, before = list[Json](), state
     for place, step in zip(in_time, tried):
         rows.append({**step_view(before, steps[place], step), "place": place})
-        before = with_step(before, *steps[place])
+        before = before.after(*steps[place])
     kind, *fields = steps[in_time[0]]
     plans = [each.plan for each in tried]
     whole = forecast_view(state, kind, fields, added([plan.moves for plan in plans]), changes_of(plans))
@@ -81,14 +81,6 @@ def step_view(state: State, step: Step, tried: Tried) -> Json:
     second = second_of(kind, fields)
     shown["sections"] = [row for row in shown["sections"] if second in (None, row["since"]["second"])]
     return {name: shown[name] for name in SHOWN}
-
-
-def with_step(state: State, kind: str, *fields: str) -> State:
-    """The rows with a step; those that are kept in step with the book stay as they are."""
-    after = copy.copy(state)
-    after.entries = list(state.entries)
-    getattr(after, f"take_{kind}")(*fields)
-    return after
 
 
 def added(lists: Sequence[Moves]) -> Moves:

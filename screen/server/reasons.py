@@ -3,7 +3,7 @@
 from __future__ import annotations
 
 from .answers import Supply
-from .diagram import layout_of, reached
+from .diagram import closed_devices, layout_of, supplied_nodes
 from .state import State
 
 MOST_NAMED = 3
@@ -14,12 +14,12 @@ def still_cut_off(state: State, supply: Supply, number: int, entry: int) -> str 
     supply is that before the entry."""
     device, second = state.devices[number], supply.second
     same = [each for each in state.entries if each.device == number and each.is_kept and each.second == second]
-    closed = [supply.closed[each.name] and supply.alive[each.name] for each in state.devices]
-    closed[number] = supply.alive[device.name]
-    if not closed[number] or any(each.number > entry for each in same):
+    if not supply.alive[device.name] or any(each.number > entry for each in same):
         return None
-    if reached(len(state.nodes), state.devices, closed)[device.a]:
+    closed, supplied = closed_devices(state, supply), supplied_nodes(state, supply)
+    if supplied[device.a] or supplied[device.b]:
         return None
+    closed[number] = True
     above = open_above(state, number, closed)
     words = [open_words(state, supply, each) for each in above[:MOST_NAMED]]
     more = f" and {len(above) - MOST_NAMED} more" if len(above) > MOST_NAMED else ""

@@ -17,7 +17,7 @@ from .names import name_in
 from .office import Office
 from .reader import Past
 from .state import Refused, State
-from .views import Json, command_words, day_name, entry_view, moment, outage_view, text
+from .views import Json, command_words, day_name, entry_view, moment, outages_of, text
 
 SHIFT_SECONDS = 8 * 3_600
 MOST_ROWS = 500
@@ -141,7 +141,6 @@ async def shift_view(office: Office, wanted: dict[str, str]) -> Json:
         "number": state.number,
         "first": moment(state, state.period.first),
         "last": moment(state, state.period.end - 1),
-        "printed": moment(state, int(time.time())),
         "as_of": moment(state, supply.second),
         "since": moment(state, since),
         "until": moment(state, min(until, int(time.time()))),
@@ -152,7 +151,6 @@ async def shift_view(office: Office, wanted: dict[str, str]) -> Json:
         "rest": [sending_view(state, each) for each in rest[:MOST_ROWS]],
         "rest_found": len(rest),
         "unanswered": sum(is_open(office, each) for each in sendings),
-        "marks": marks_view(office),
     }
 
 
@@ -200,23 +198,6 @@ def numbers_of(state: State, sending: Sending) -> list[int]:
     span = range(sending.commands[0], sending.commands[1] + 1)
     shorter = span if len(span) < len(state.changed) else state.changed
     return sorted((number for number in shorter if number in span and number in state.changed), reverse=True)
-
-
-def outages_of(state: State, outages: Iterable[Outage]) -> list[Json]:
-    """Outages of sections, gathered by what cut them off; those of most customers first."""
-    found: dict[tuple[int, int], Json] = {}
-    for each in outages:
-        row = outage_view(state, each)
-        key = each.entry, 0 if each.entry else each.since
-        whole = found.setdefault(key, {**row, "sections": [], "customers": 0, "feeders": [], "until": row["until"]})
-        whole["sections"].append(row["section"])
-        whole["customers"] += row["customers"]
-        whole["feeders"] = sorted({*whole["feeders"], row["feeder"]})
-        if row["since"]["second"] < whole["since"]["second"]:
-            whole["since"] = row["since"]
-        if not row["until"] or (whole["until"] and row["until"]["second"] > whole["until"]["second"]):
-            whole["until"] = row["until"]
-    return sorted(found.values(), key=lambda row: (-row["customers"], row["since"]["second"]))
 
 
 def ended_view(state: State, past: Past, since: int, until: int) -> list[Json]:

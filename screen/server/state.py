@@ -3,6 +3,7 @@ what a command would do and what it moved are the desk's answers."""
 
 from __future__ import annotations
 
+import copy
 import time
 from collections import Counter, defaultdict, deque
 from collections.abc import Iterator
@@ -14,6 +15,7 @@ from .reader import Command, Device, Entry, Rows
 SECTION = 2
 LATE_SECONDS = 900
 KEPT_COMMANDS = 500
+MOST_ENTRIES = 50_000  # that a book takes
 Services = Counter[tuple[int, int | None]]  # customers by the seconds since which and until which they are in service
 
 
@@ -70,6 +72,13 @@ class State:
         getattr(self, f"take_{command.kind}")(*command.fields)
         self.note(command)
         self.number = command.number
+
+    def after(self, kind: str, *fields: str) -> State:
+        """The rows with a command about an entry; those that are kept in step with the book stay as they are."""
+        found = copy.copy(self)
+        found.entries = list(self.entries)
+        getattr(found, f"take_{kind}")(*fields)
+        return found
 
     def take_cause(self, code: str, name: str) -> None:
         self.causes[int(code)] = name
@@ -152,11 +161,10 @@ class State:
     def feeder_of(self, section: str) -> int:
         return self.nodes[self.node_numbers[section]][2]
 
-    def last_entry(self, device: Device, second: int) -> Entry | None:
-        """The last kept entry of a device up to a second."""
-        found = [
-            each for each in self.entries if each.device == device.number and each.is_kept and each.second <= second
-        ]
+    def last_entry(self, device: Device, second: int, before: int = MOST_ENTRIES) -> Entry | None:
+        """The last kept entry of a device up to a second, of those in it one before the entry of a number."""
+        own = (each for each in self.entries if each.device == device.number and each.is_kept)
+        found = [each for each in own if (each.second, each.number) < (second, before)]
         return max(found, key=lambda each: (each.second, each.number)) if found else None
 
     def services_of(self, node: int) -> Services:

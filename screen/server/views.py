@@ -3,12 +3,12 @@
 from __future__ import annotations
 
 import re
-from collections.abc import Sequence
+from collections.abc import Iterable, Sequence
 from typing import Any
 
 from .answers import Outage, Supply
 from .commands import FIELDS
-from .diagram import layout_of, normal_ways, reached
+from .diagram import closed_devices, layout_of, normal_ways, supplied_nodes
 from .moments import double_hours
 from .reader import Command, Entry
 from .state import State
@@ -86,31 +86,28 @@ def outage_view(state: State, row: Outage) -> Json:
     return shown
 
 
+def outages_of(state: State, outages: Iterable[Outage]) -> list[Json]:
+    """Outages of sections, gathered by what cut them off; those of most customers first."""
+    found: dict[tuple[int, int], Json] = {}
+    for each in outages:
+        row = outage_view(state, each)
+        key = each.entry, 0 if each.entry else each.since
+        whole = found.setdefault(key, {**row, "sections": [], "customers": 0, "feeders": [], "until": row["until"]})
+        whole["sections"].append(row["section"])
+        whole["customers"] += row["customers"]
+        whole["feeders"] = sorted({*whole["feeders"], row["feeder"]})
+        if row["since"]["second"] < whole["since"]["second"]:
+            whole["since"] = row["since"]
+        if not row["until"] or (whole["until"] and row["until"]["second"] > whole["until"]["second"]):
+            whole["until"] = row["until"]
+    return sorted(found.values(), key=lambda row: (-row["customers"], row["since"]["second"]))
+
+
 def news_view(state: State, commands: Sequence[Command], supply: Supply) -> list[Json]:
-    """The outages that go on and were begun by switchings among some commands, the largest first."""
-    begun = {state.changed[each.number]: each for each in commands if each.kind == "switch"}
-    found: dict[int, list[Outage]] = {}
-    for row in supply.outages:
-        if row.entry in begun:
-            found.setdefault(row.entry, []).append(row)
-    shown = [outage_news(state, begun[entry], rows) for entry, rows in found.items()]
-    return sorted(shown, key=lambda row: (-row["customers"], row["no"]))
-
-
-def outage_news(state: State, command: Command, rows: Sequence[Outage]) -> Json:
-    """A new outage: which device, who entered it, where, and how many customers it cut off."""
-    entry = state.entries[rows[0].entry - 1]
-    return {
-        "no": command.number,
-        "ref": command.ref,
-        "entry": entry.number,
-        "device": state.devices[entry.device].name,
-        "crew": entry.crew,
-        "since": moment(state, entry.second),
-        "feeders": sorted({state.feeder_of(row.section) for row in rows}),
-        "sections": [row.section for row in rows],
-        "customers": sum(row.customers for row in rows),
-    }
+    """The outages that go on and were begun by switchings among some commands."""
+    begun = {state.changed[each.number]: each.number for each in commands if each.kind == "switch"}
+    found = outages_of(state, (row for row in supply.outages if row.entry in begun))
+    return [{**row, "no": begun[row["entry"]], "ref": row["reference"]} for row in found]
 
 
 def now_view(state: State, supply: Supply) -> Json:
@@ -131,12 +128,9 @@ def now_view(state: State, supply: Supply) -> Json:
 
 
 def diagram_view(state: State, supply: Supply) -> Json:
-    """The one-line diagram: parts without supply first, the others by feeder. Which sections have supply is the desk's word; a
-    bus has it where closed devices lead to it."""
+    """The one-line diagram: parts without supply first, the others by feeder."""
     at, devices, nodes = supply.second, state.devices, len(state.nodes)
-    closed = [supply.closed[each.name] and supply.alive[each.name] for each in devices]
-    out, ways = {row.section for row in supply.outages}, reached(nodes, devices, closed)
-    supplied = [name not in out if kind == 2 else way for (name, kind, _), way in zip(state.nodes, ways)]
+    closed, supplied = closed_devices(state, supply), supplied_nodes(state, supply)
     order = [(int(supplied[number]), feeder, number) for number, (_, _, feeder) in enumerate(state.nodes)]
     layout = layout_of(nodes, devices, order)
     normal = normal_ways(nodes, devices, layout, closed)

@@ -19,7 +19,7 @@ from urllib.parse import urlsplit
 
 from aiohttp import web
 
-from . import forecasts, handover, moments, outage, search, shift, views, year
+from . import forecasts, moments, outage, search, shift, views, year
 from .apart import Kept
 from .commands import FIELDS
 from .desk import Away
@@ -31,7 +31,7 @@ from .state import NotNow, Refused
 from .to_now import to_now_view
 
 STATIC = Path(__file__).resolve().parent.parent / "static"
-PAGES = {"/": "now", "/sheet": "sheet", "/enter": "enter", "/network": "network", "/year": "year"}
+PAGES = {"/": "now", "/sheet": "sheet", "/enter": "enter", "/network": "network", "/year": "year", "/shift": "handover"}
 COMMAND_BYTES = 16_384
 REMARK_LETTERS = 400
 MOST_PAGES = 500
@@ -150,7 +150,7 @@ def refusal_of(request: web.Request) -> web.Response | None:
         reply.headers["Allow"] = "GET, HEAD, POST"
         return reply
     site, is_visit = request.headers.get("Sec-Fetch-Site", "none"), request.headers.get("Sec-Fetch-Mode") == "navigate"
-    is_visit = is_visit and request.method == "GET" and request.path in (*PAGES, "/shift")  # by a link from elsewhere
+    is_visit = is_visit and request.method == "GET" and request.path in PAGES  # by a link from elsewhere
     if site not in ("same-origin", "none") and not is_visit:
         return complaint(403, "origin", "asked by a page from elsewhere")
     if request.path == "/health":
@@ -408,19 +408,6 @@ async def changes(request: web.Request) -> web.StreamResponse:
     return answer(200, await shift.shift_view(office_of(request), dict(request.query)))
 
 
-async def shift_page(request: web.Request) -> web.StreamResponse:
-    """The same, as a page to be printed."""
-    login, query = login_of(request) or "", dict(request.query)
-    try:
-        status, shown, why = 200, await shift.shift_view(office_of(request), query), ""
-    except Refused as refused:  # the page is shown with the fields as they were typed
-        status, shown, why = 422, await shift.shift_view(office_of(request), {}), str(refused)
-    settings = settings_of(request)
-    shown["book"] = settings.name
-    data = handover.page(shown, query, name_of(request, login), why, settings.training)
-    return web.Response(status=status, text=data, content_type="text/html", charset="utf-8")
-
-
 # The year.
 
 
@@ -533,7 +520,6 @@ GETS: dict[str, Handler] = {
     "/api/log": shows(shift.log_view),
     "/api/changes": changes,
     "/api/marks": shows(lambda office, _: shift.marks_view(office)),
-    "/shift": shift_page,
     "/api/year": table,
     "/api/totals": totals,
 }

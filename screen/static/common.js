@@ -160,7 +160,8 @@ const PAGES = [
 const state = el("span", { role: "status", class: "state" });
 const printed = el("span", { class: "print-only" });
 window.addEventListener("beforeprint", () => { printed.textContent = `Printed ${new Date().toLocaleDateString("sv-SE")} ${time()} by this computer's clock`; });
-const banner = el("div", { class: "alarm", role: "alert" });
+const alarmWords = el("summary", {});
+const banner = el("div", { class: "alarm", role: "alert", hidden: true }, el("details", {}, alarmWords));
 const news = new News(() => showTitle());
 
 function head() {
@@ -178,8 +179,9 @@ function head() {
     el("nav", { "aria-label": "Pages" }, links),
     el("div", { class: "who" }, state, who, rename, printed),
   );
-  const line = el("div", { class: "line" }, news.element);
-  heading.replaceWith(el("div", { class: "page-top" }, banner, line), unanswered());
+  links.find((link) => link.hasAttribute("aria-current"))?.scrollIntoView({ block: "nearest", inline: "center" }); // on a phone the links scroll
+  const line = el("div", { class: "line" }, unanswered(), banner, news.element);
+  heading.replaceWith(el("div", { class: "page-top" }, line));
   line.prepend(heading);
   showTitle();
 }
@@ -198,15 +200,18 @@ function showTitle() {
   document.title = sign + title;
 }
 
-/** Shows or takes back an alarm: a banner that stays in sight however far the page is scrolled, and a sign in the tab. */
+/** Shows or takes back an alarm: in the page's top line, which stays in sight and keeps its height, so that nothing that somebody is
+ * about to click moves; a red frame around the window; and a sign in the tab. What the line has no room for unfolds. */
 function alarm(name, words) {
   if (words) alarms.set(name, words);
   else alarms.delete(name);
-  const told = [...alarms.values()].join("\n");
+  const all = [...alarms.values()];
   showTitle();
-  if (told === banner.dataset.told) return;
-  banner.dataset.told = told;
-  banner.replaceChildren(...[...alarms.values()].map((each) => el("p", {}, each)));
+  if (all.join("\n") === banner.dataset.told) return;
+  banner.dataset.told = all.join("\n");
+  banner.hidden = !all.length;
+  if (all.length && news.said.contains(document.activeElement)) news.title.focus(); // what is said is covered: the list has it
+  alarmWords.replaceChildren(...all.map((each) => el("p", {}, each)));
 }
 
 const time = () => new Date().toLocaleTimeString("en-GB");
@@ -265,7 +270,7 @@ function listen() {
     if (event.what === "commands" || isLater) renewAll(event);
   };
   const lost = (words) => {
-    say(state, "The screen's server is away");
+    say(state, "Server: AWAY");
     alarm("server", `WHAT IS SHOWN MAY BE OLD: ${words}. ${heardAt ? `Last news at ${heardAt} by this computer's clock.` : ""} This page tries again by itself.`);
   };
   document.addEventListener("visibilitychange", () => !document.hidden && isDue && renewAll({}));

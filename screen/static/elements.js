@@ -51,20 +51,25 @@ export function listed(value) {
   return timeOf(text, isTwice ? [day, time, offset] : [day, time]);
 }
 
-/** A moment as seen from another one: its day where that is another one, its offset where the clock was set in between. */
+/** A moment as seen from another one: its month and day where that is another one, with the year where that is, and then to the
+ * minute; its offset where the clock was set in between. The whole of it is said where somebody points at it. */
 export function momentFrom({ text }, other) {
   const [day, time, offset] = clock(text), [otherDay, , otherOffset] = clock(other.text);
-  return timeOf(text, [day !== otherDay && day, time, offset !== otherOffset && offset].filter(Boolean));
+  const isSame = day === otherDay, isOfYear = day.slice(0, 4) === otherDay.slice(0, 4);
+  const shown = timeOf(text, [!isSame && (isOfYear ? day.slice(5) : day), isSame ? time : time.slice(0, 5), offset !== otherOffset && offset].filter(Boolean));
+  shown.title = momentWords(text);
+  return shown;
 }
 
-export function duration(seconds) {
+/** A length of time, by its largest units where not all are asked for. */
+export function duration(seconds, units = 4) {
   const parts = [
     [Math.floor(seconds / 86400), "d"],
     [Math.floor(seconds / 3600) % 24, "h"],
     [Math.floor(seconds / 60) % 60, "min"],
     [seconds % 60, "s"],
   ].filter(([count]) => count);
-  return parts.map(([count, unit]) => `${count} ${unit}`).join(" ") || "0 s";
+  return parts.slice(0, units).map(([count, unit]) => `${count} ${unit}`).join(" ") || "0 s";
 }
 
 /** The ticket's number in a reference: one that another program has given is shown whole, of the screen's own ones the part

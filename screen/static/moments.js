@@ -51,6 +51,11 @@ export class MomentField {
     window.addEventListener("awake", () => this.isNow && this.ask());
   }
 
+  /** What is typed isn't read yet. */
+  get isReading() {
+    return this.second === null && this.input.value.trim() !== "" && !this.told.querySelector(".bad, .ask");
+  }
+
   /** The time by the server's clock, from which the field's own goes on. */
   async ask() {
     this.base = await serverTime();

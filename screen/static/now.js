@@ -7,6 +7,7 @@ import { Outages } from "./outages.js";
 
 const AGAIN_SECONDS = 15; // after which a page that shows the time that is now is shown again
 const SLIDER_SECONDS = 600, DAY_SECONDS = 86400;
+const NOT_READ = 422; // the status of a time that can't be read
 
 const main = document.getElementById("main");
 const tiles = el("div", { class: "tiles inline" });
@@ -26,6 +27,7 @@ async function show({ anew = false } = {}) {
   try {
     shown ??= await get("/api/now", at ? { at } : {});
   } catch (error) {
+    if (error.status !== NOT_READ && outages.shown) throw error; // the rows stay where they are: the page's top says that they may be old
     if (mine === count) trouble.replaceChildren(el("p", { class: "bad" }, error.message));
     return;
   }

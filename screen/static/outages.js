@@ -119,7 +119,7 @@ export class Outages {
       { told: `${names} ${outage.customers}`, make: () => unfolded(outage, names) },
       outage.feeders.join(", "),
       { told: `${outage.since.text} ${at.text.slice(0, 10)}`, make: () => momentFrom(outage.since, at) },
-      duration(at.second - outage.since.second),
+      duration(at.second - outage.since.second, 2),
       outage.device ? `${outage.cause} ${outage.cause_name}` : "0 UNASSIGNED",
       outage.crew || "",
       outage.entry ? { told: `${outage.entry} ${outage.reference}`, make: () => entryLink(outage) } : "",

@@ -144,7 +144,7 @@ export class Sender {
     const isReady = length && this.shown && !this.button.disabled && (await this.isOfNow());
     this.isBusy = false;
     if (!isReady) {
-      const why = !length ? this.missing : this.shown?.future && !this.tick.checked ? "Not sent: it lies in the future. Tick that it is planned, and send then." : SHOWN_FIRST;
+      const why = this.clock?.isReading ? SHOWN_FIRST : !length ? this.missing : this.shown?.future && !this.tick.checked ? "Not sent: it lies in the future. Tick that it is planned, and send then." : SHOWN_FIRST;
       this.outcome.replaceChildren(el("p", { class: "note" }, why));
       if (!this.shown) this.update();
       return;
@@ -196,7 +196,7 @@ export class Sender {
     const { intent } = this;
     intent.isUnknown = true;
     const again = el("button", { type: "button", class: "main again", click: () => this.tryIt() }, "Send again");
-    const leave = el("button", { type: "button", class: "leave", click: () => this.leave() }, "Leave it in the list above, and enter another");
+    const leave = el("button", { type: "button", class: "leave", click: () => this.leave() }, "Leave it in the list at the page's top, and enter another");
     const words = "It isn't known whether this is saved. Send it again: it goes under the same reference, and acts once.";
     const why = trouble.shown.error === "away" ? trouble.message : `${words} (${trouble.message})`;
     this.outcome.replaceChildren(el("div", { class: "bad" }, el("p", {}, why), this.savedBefore(), el("p", {}, `${intent.words} (${refOf(intent)})`), el("div", { class: "buttons" }, again, leave)));

@@ -124,7 +124,8 @@ async function lookAgain() {
   const entry = await get(`/api/entries/${opened.no}`);
   if (entry.revision === opened.revision || detail.querySelector(".changed")) return;
   const again = el("button", { type: "button", class: "main anew", click: () => open(entry.no) }, "Look at it as it is now");
-  detail.firstElementChild?.prepend(el("div", { class: "warn changed", role: "status" }, el("p", {}, `Somebody changed this entry: ${entryWords(entry)}`), again));
+  const place = opened.sender?.outcome ?? detail.firstElementChild; // below what can be clicked, so that nothing moves
+  place?.append(el("div", { class: "warn changed", role: "status" }, el("p", {}, `Somebody changed this entry: ${entryWords(entry)}`), again));
 }
 
 async function open(no, { kind = "correct" } = {}) {

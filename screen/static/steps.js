@@ -134,6 +134,10 @@ export class Steps {
     return this.filled.some((row) => row.second.isNow);
   }
 
+  get isReading() {
+    return this.filled.some((row) => row.second.isReading);
+  }
+
   tick(options) {
     this.filled.filter((row) => row.second.isNow).forEach((row) => row.second.tick(options));
   }

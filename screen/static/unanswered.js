@@ -1,6 +1,7 @@
 // Commands that were sent and have no answer yet, by their reference, for all pages of this browser. They outlive a page that is
-// loaded again or closed, and stand in the head of every page until the desk has answered them. The steps of an outage are kept
-// as one, by the reference of the first, with the answers that there are.
+// loaded again or closed, and are counted in the top line of every page until the desk has answered them: in the heading's place,
+// so that nothing moves on the page; the list unfolds. The steps of an outage are kept as one, by the reference of the first, with
+// the answers that there are.
 import { duration, el } from "./elements.js";
 import { known, post, Trouble } from "./requests.js";
 
@@ -8,7 +9,10 @@ const PREFIX = "outagebook-unanswered ";
 const LOOK_SECONDS = 5; // between two looks whether a page that sent a command is still there
 export const store = storage();
 const here = new Map(); // what this page itself sends, by reference: its form shows it, and goes on with it
-const place = el("div", { class: "unanswered no-print" });
+const title = el("summary", {});
+const rows = el("ul", {});
+const notKnown = el("p", {});
+const place = el("div", { class: "unanswered no-print", hidden: true }, el("details", {}, title, el("div", { class: "card panel" }, notKnown, rows)));
 const shown = new Map(); // rows by reference
 const answered = []; // who wants to know that a command was answered by another page
 
@@ -140,13 +144,10 @@ function settle(ref, words) {
   count();
 }
 
-const title = el("h2", {});
-const rows = el("ul", {});
-
 function count() {
   const open = [...shown.values()].reduce((sum, row) => sum + Number(row.dataset.open), 0);
-  const words = open > 1 ? `${open} commands without an answer: it isn't known whether they are saved` : "1 command without an answer: it isn't known whether it is saved";
-  title.textContent = open ? words : rows.children.length ? "Answered" : "";
+  title.textContent = open ? `${open} command${open > 1 ? "s" : ""} without an answer` : rows.children.length ? "Answered" : "";
+  notKnown.textContent = open ? `It isn't known whether ${open > 1 ? "they are" : "it is"} saved.` : "";
   place.hidden = !rows.children.length;
 }
 
@@ -176,8 +177,6 @@ export async function look() {
 
 /** The list of this browser's unanswered commands, for the head of a page. */
 export function unanswered() {
-  place.replaceChildren(title, rows);
-  place.hidden = true;
   window.addEventListener("storage", (event) => {
     if (event.key?.startsWith(PREFIX) && event.newValue === null) answered.forEach((work) => work(event.key.slice(PREFIX.length)));
     look();

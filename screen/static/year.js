@@ -51,10 +51,10 @@ function indexTiles(indices) {
 }
 
 /** What is open counts to the period's end: that is said before any figure of the whole period. */
-function openBanner({ open }) {
-  if (!open) return "";
+function openBanner({ open, to_now }) {
+  if (!open) return to_now ? el("p", { class: "good open-outages" }, "No outage is open.") : "";
   const end = known.book.days.at(-1);
-  const words = `${number(open)} outage${open > 1 ? "s are" : " is"} open and count${open > 1 ? "" : "s"} to the period's end, ${end}, in every figure of the whole period. What is lost up to now comes first.`;
+  const words = `${number(open)} outage${open > 1 ? "s are" : " is"} open and count${open > 1 ? "" : "s"} to the period's end, ${end}, in every figure of the whole period.`;
   return el("p", { class: "warn open-outages" }, words);
 }
 
@@ -89,7 +89,7 @@ function daysPart(shown) {
   const name = (day, isMarked) => (isMarked ? `${day} marked` : day);
   const rows = shown.to_now ? shown.to_now.days.map(([day, amount, isMarked]) => [name(day, isMarked), amount]) : shown.days.map((row) => [name(row[0], row.at(-1) === "marked"), Number(row[1])]);
   const note = `Customer-seconds that fall on a day: not the standard's daily SAIDI. Days without any aren't listed${shown.to_now ? ", nor days to come" : ""}.`;
-  return el("section", {}, el("h2", {}, "Days"), el("p", { class: "note" }, note), scrolling("Days", amounts(rows, "day")));
+  return el("section", {}, el("h2", {}, "Days, latest first"), el("p", { class: "note" }, note), scrolling("Days", amounts([...rows].reverse(), "day")));
 }
 
 async function show() {
@@ -98,6 +98,7 @@ async function show() {
   try {
     shown ??= await get("/api/year");
   } catch (trouble) {
+    if (figures.children.length) throw trouble; // the figures stay: the page's top says that they may be old
     figures.replaceChildren(el("p", { class: "bad" }, trouble.message));
     return;
   }

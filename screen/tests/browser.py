@@ -172,6 +172,11 @@ class Browser:
         script = "document.querySelectorAll(`${arguments[0]} details`).forEach((each) => (each.open = true))"
         self.driver.execute_script(script, selector)
 
+    def unanswered(self, count: int) -> None:
+        """Waits until so many commands are said to have no answer, and unfolds them."""
+        self.says(".unanswered summary", f"{count} command{'s' if count > 1 else ''} without an answer")
+        self.unfold(".unanswered")
+
     def resting(self, selector: str) -> WebElement | None:
         """An element in the window's middle, if it is enabled and stays where it is."""
         found: WebElement | None = self.driver.execute_async_script(RESTS, selector)

@@ -238,14 +238,18 @@ class Screen:
     def post(self, command: dict[str, str]) -> tuple[int, Any]:
         return self.call("/api/command", json.dumps(command).encode(), {"Content-Type": "application/json"})
 
-    def switch(self, position: str, device: str, cause: int = 1, second: int | None = None, crew: str = "BERT") -> int:
-        """A switching by the login's own name, now or at a second: the number of its command."""
+    def send(self, **command: str) -> Any:
+        """Sends a command under a reference of the login's own: what the page is told."""
         name = self.headers["Cookie"].partition("=")[2]
-        fields = {"f1": device, "f2": position, "f3": str(second or int(time.time())), "f4": str(cause), "f5": crew}
-        status, shown = self.post({"kind": "switch", "ref": f"SCR-{name}-{time.time_ns()}", **fields})
+        status, shown = self.post({"ref": f"SCR-{name}-{time.time_ns()}", **command})
         if status != 200:
             raise AssertionError(shown)
-        return int(shown["reply"]["no"])
+        return shown
+
+    def switch(self, position: str, device: str, cause: int = 1, second: int | None = None, crew: str = "BERT") -> Any:
+        """A switching, now or at a second: what the page is told."""
+        at = str(second or int(time.time()))
+        return self.send(kind="switch", f1=device, f2=position, f3=at, f4=str(cause), f5=crew)
 
     def number(self) -> int:
         """The last command that the screen knows."""
@@ -277,11 +281,13 @@ class Case(unittest.TestCase):
 
 
 class Between:
-    """A proxy before the screen. It hands bytes on; while it has a status, it answers each request with that and a page of
-    its own, as nginx does while the screen is away."""
+    """A proxy before a port. It hands bytes on, counts POSTs and notes routes. It cuts the replies to some POSTs off; while it
+    has a status, it answers each request with that and a page of its own, as nginx does while the screen is away."""
 
-    def __init__(self) -> None:
-        self.screen, self.status, self.is_held = 0, 0, False
+    def __init__(self, to: int = 0) -> None:
+        self.to, self.status, self.is_held = to, 0, False
+        self.cuts, self.posts = 0, 0
+        self.routes: list[str] = []
         self.open: set[socket.socket] = set()
         self.dead: set[socket.socket] = set()
         self.socket = socket.create_server(("127.0.0.1", 0))
@@ -319,10 +325,14 @@ class Between:
                     page = f"HTTP/1.1 {self.status} No\r\nContent-Type: text/html\r\nContent-Length: 2\r\n"
                     client.sendall(f"{page}Connection: close\r\n\r\nno".encode())
                     return
-                with socket.create_connection(("127.0.0.1", self.screen)) as screen:
-                    screen.sendall(data)
-                    threading.Thread(target=pump, args=(client, screen, self.is_dead), daemon=True).start()
-                    pump(screen, client, self.is_dead)
+                is_post = data.startswith(b"POST")
+                is_cut = is_post and self.cuts > 0
+                self.cuts, self.posts = self.cuts - is_cut, self.posts + is_post
+                self.routes += data.decode(errors="replace").split(" ")[1:2]
+                with socket.create_connection(("127.0.0.1", self.to)) as other:
+                    other.sendall(data)
+                    threading.Thread(target=pump, args=(client, other, self.is_dead), daemon=True).start()
+                    pump(other, client, (lambda *_: True) if is_cut else self.is_dead)
         except OSError:
             pass
         finally:

@@ -10,7 +10,7 @@ from typing import Any
 
 import offices
 import support
-from server import forecasts, outage, reader, state
+from server import diagram, forecasts, outage, reader, state
 from server.office import new_state
 
 COMMANDS = int(os.environ.get("SCREEN_FORECASTS", "300"))
@@ -86,6 +86,20 @@ class Forecasts(offices.Case):
         )
         return [["switch", *step, "5", "CREW-3"] for step in made][: self.random.randint(2, 6)]
 
+    def changes(self) -> list[Step]:
+        """Some switchings, corrections and withdrawals, one after the other, often of one entry."""
+        after, steps = self.state, list[Step]()
+        few = self.random.sample(range(len(after.entries)), 3)
+        for _ in range(self.random.randint(2, 6)):
+            told = [self.random.choice(["open", "close"]), str(max(self.moment(), FIRST + 1)), "5", "CREW-3"]
+            choices = [["switch", self.random.choice(self.state.devices).name, *told]]
+            for entry in (after.entries[place] for place in few if after.entries[place].is_kept):
+                seen = [str(entry.number), str(entry.revision)]
+                choices += [["correct", *seen, *told], ["withdraw", *seen]]
+            steps.append(self.random.choice(choices))
+            after = after.after(*steps[-1])
+        return steps
+
     async def act_on_steps(self, steps: list[Step]) -> None:
         """Forecasts some steps as one list, and sends them in the order that it tells: each moves what was forecast."""
         shown, before = await outage.forecast(self.office, steps), self.desk.get("/totals")
@@ -104,7 +118,12 @@ class Forecasts(offices.Case):
     async def check_copy(self) -> None:
         """The copy answers as the desk, also of entries that were made after others were tried in it."""
         for second in (self.moment(), self.moment(), END - 1):
-            self.assertEqual(await self.copy.supply(second), await self.office.supply(second))
+            supply = await self.office.supply(second)
+            self.assertEqual(await self.copy.supply(second), supply)
+            supplied = diagram.supplied_nodes(self.state, supply)
+            self.assertTrue(supplied[diagram.GRID])
+            for device, is_closed in zip(self.state.devices, diagram.closed_devices(self.state, supply)):
+                self.assertTrue(not is_closed or supplied[device.a] == supplied[device.b])  # buses among them
 
     async def check_past(self) -> None:
         """Outages as the copy followed them are those of the rows, swept anew."""
@@ -133,22 +152,33 @@ class Forecasts(offices.Case):
     async def test_steps_of_outages(self) -> None:
         self.random = random.Random(4)
         await self.begin(support.fortnight("steps"))
-        for _ in range(COMMANDS // 8):
-            await self.act_on_steps(self.steps())
+        await self.check_copy()
+        process = self.copy.process
+        for number in range(COMMANDS // 8):
+            await self.act_on_steps(self.steps() if number % 2 else self.changes())
             await self.check_copy()
             await self.check_past()
         self.check_rows()
+        self.assertIs(self.copy.process, process)
 
     async def test_an_outage_is_taken_back(self) -> None:
-        """Withdrawals one after the other, and back to the copy's next life: what they move is what was forecast."""
+        """Withdrawals one after the other: what they move is what was forecast, and the copy is the same one."""
         await self.begin(support.fortnight("back"))
         self.random = random.Random(5)
         for step in (steps := self.steps()):
             await self.accept(*step)
         last = len(self.state.entries)
-        await self.act_on_steps([["withdraw", str(last - place), "1"] for place in range(len(steps))])
+        undo = [["withdraw", str(last - place), "1"] for place in range(len(steps))]
+        await self.check_copy()
+        process = self.copy.process
+        with self.assertRaisesRegex(state.Refused, f"step {len(undo) + 1}: the entry was withdrawn"):
+            await outage.forecast(self.office, [*undo, ["withdraw", str(last), "2"], ["withdraw", "1", "1"]])
+        with self.assertRaisesRegex(state.Refused, "step 2: somebody changed this entry: it has revision 1 by now"):
+            await outage.forecast(self.office, [undo[0], ["withdraw", str(last - 1), "9"]])
+        await self.act_on_steps(undo)
         await self.check_copy()
         await self.check_past()
+        self.assertIs(self.copy.process, process)
 
     async def test_a_copy_that_fell_behind(self) -> None:
         """After more commands than it follows there is another copy."""
@@ -215,6 +245,7 @@ class Alone(unittest.TestCase):
             '[["switch","CB-1"]]',
             '[["bus","A"]]',
             '[["switch","CB-1","open","now","5","A"]]',
+            '[["correct","1","1","open","now","5","A"]]',
             f"[{'[' * 9000}",
         ):
             with self.assertRaises(state.Refused, msg=wrong[:40]):

@@ -60,7 +60,7 @@ class Outages(Case):
         book = support.live(self._testMethodName, "tied", TIED)
         self.live = support.Screen(book, "--host", f"127.0.0.1:{self.between.port}")
         self.addCleanup(self.live.end)
-        self.between.screen = self.live.port
+        self.between.to = self.live.port
         self.url = f"http://127.0.0.1:{self.between.port}"
         self.keys, self.begun = 0, int(time.time())
 
@@ -156,7 +156,8 @@ class Outages(Case):
         page.says("#detail .remark", "A tree on the line.")
         page.unfold("main")
         page.says("main", "(A tree on the line.)")
-        self.assertIn("(A tree on the line.)", support.call(f"{self.live.url}/shift")[1].decode())
+        page.open(f"{self.url}/shift")
+        page.says("main", "(A tree on the line.)")
 
     def test_killed_between_steps_and_resumed(self) -> None:
         """The page is left after two steps; then the screen's proxy answers 502, and the desk hangs while the page is left again:
@@ -165,7 +166,7 @@ class Outages(Case):
         self.break_off(page, LEFT)
         page.wait(lambda: page.text("h1") == "Network", "another page")
         page.ready()
-        page.says(".unanswered", "3 commands without an answer")
+        page.unanswered(3)
         page.says(".unanswered", "2 of 5 steps are saved")
         self.assertEqual(self.words(), SENT[:2])
         self.between.answer(502)
@@ -179,6 +180,7 @@ class Outages(Case):
         page.says(".unanswered", "On its way")
         page.driver.get(f"{self.url}/")
         page.ready()
+        page.unanswered(3)
         page.says(".unanswered", "2 of 5 steps are saved")
         os.kill(desk, signal.SIGCONT)
         page.click(".again-above")

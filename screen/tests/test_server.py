@@ -15,9 +15,8 @@ from pathlib import Path
 from typing import Any, cast
 
 import support
-from server import apart, guard, moments, reader
+from server import apart, guard, reader
 from server.desk import Away
-from server.state import Refused
 
 LIGHTHOUSE = {"kind": "switch", "f1": "LBS-22", "f2": "close", "f3": "1743976320", "f4": "5", "f5": "CREW-3"}
 
@@ -43,21 +42,6 @@ def is_running(process: int) -> bool:
 
 
 class Commands(support.Case):
-    def test_a_switching_acts_once_and_is_as_forecast(self) -> None:
-        screen = self.screen()
-        screen.log_in("ANNA")
-        query = "&".join(f"{name}={value}" for name, value in LIGHTHOUSE.items())
-        forecast = screen.call(f"/api/forecast?{query}")[1]
-        self.assertEqual([row["section"] for row in forecast["sections"]], ["LIGHTHOUSE"])
-        first = screen.post({**LIGHTHOUSE, "ref": "SCR-ANNA-1"})
-        self.assertEqual(first[0], 200)
-        self.assertEqual(first[1]["reply"]["moved"], forecast["moved"])
-        self.assertFalse(first[1]["again"])
-        again = screen.post({**LIGHTHOUSE, "ref": "SCR-ANNA-1"})
-        self.assertEqual((again[0], again[1]["again"], again[1]["text"]), (200, True, first[1]["text"]))
-        self.assertEqual(screen.number(), 103)
-        self.assertEqual(screen.call("/api/now")[1]["outages"], [])
-
     def test_refusals_in_words(self) -> None:
         screen = self.screen()
         screen.log_in("ANNA")
@@ -128,15 +112,6 @@ class Commands(support.Case):
         self.assertEqual([(row["reference"], row["login"]) for row in shown], [("SCR-ANNA-1", "ANNA")])
         self.assertEqual(shown[0]["result"], "saved: command 103, entry 36")
 
-    def test_import_with_its_report(self) -> None:
-        screen = self.screen()
-        screen.log_in("ANNA")
-        rows = (support.FORTNIGHT_FILES / "corrections.csv").read_bytes()
-        status, shown = screen.call("/api/import", rows, {"Content-Type": "text/csv"})
-        self.assertEqual((status, shown["reply"]), (200, {"added": 3, "again": 0, "stopped": None}))
-        self.assertEqual(screen.number(), 105)
-        self.assertEqual(screen.call("/api/year")[1]["totals"]["W"], "357670")
-
     def test_the_whole_year_and_its_texts(self) -> None:
         screen = self.screen()
         table = (support.FORTNIGHT_FILES / "fortnight.table.txt").read_text()
@@ -146,14 +121,6 @@ class Commands(support.Case):
         self.assertEqual(moves, (support.FORTNIGHT_FILES / "fortnight.moves.csv").read_bytes())
         self.assertEqual(support.call(f"{screen.url}/download/commands.csv")[1].count(b"\n"), 103)
         self.assertIn(b"SAIDI", support.call(f"{screen.url}/report")[1])
-
-    def test_a_copy_without_a_desk(self) -> None:
-        screen = self.screen("--no-desk")
-        screen.log_in("ANNA")
-        self.assertEqual(screen.call("/health")[1]["desk"], "none")
-        self.assertEqual(screen.call("/api/year")[1]["totals"]["W"], "366070")
-        self.assertEqual(json.loads(screen.call("/api/entries/35")[1]["history"][0]["text"])["no"], 102)
-        self.assertEqual(screen.post({**LIGHTHOUSE, "ref": "SCR-ANNA-1"})[0], 403)
 
 
 class Figures(unittest.TestCase):
@@ -167,14 +134,9 @@ class Figures(unittest.TestCase):
         cls.addClassCleanup(cls.screen.end)
         cls.screen.log_in("ANNA")
 
-    def switch(self, seconds_ahead: int, position: str = "open", seen: str = "") -> dict[str, Any]:
-        """Sends a switching of LBS-1, some seconds from now: what the page is told."""
-        second = str(int(time.time()) + seconds_ahead)
-        command = {"kind": "switch", "f1": "LBS-1", "f2": position, "f3": second, "f4": "1", "f5": "ANNA"}
-        body = json.dumps({**command, "ref": f"SCR-ANNA-{time.time_ns()}"}).encode()
-        status, shown = self.screen.call(f"/api/command{seen}", body, {"Content-Type": "application/json"})
-        self.assertEqual(status, 200, shown)
-        return cast(dict[str, Any], shown)
+    def switch(self, seconds_ahead: int) -> Any:
+        """Opens LBS-1, some seconds from now: the entry's number."""
+        return self.screen.switch("open", "LBS-1", second=int(time.time()) + seconds_ahead)["entry"]
 
     def forecast(self, **fields: str) -> tuple[int, Any]:
         told = {"kind": "switch", "f1": "LBS-1", "f2": "open", "f4": "1", "f5": "ANNA", "f3": str(int(time.time()))}
@@ -182,9 +144,7 @@ class Figures(unittest.TestCase):
 
     def test_late_and_future(self) -> None:
         """A second to come doesn't make all that follows late; more than a quarter of an hour back is late."""
-        ahead = self.switch(4 * 3_600)["entry"]
-        entry = self.switch(-60)["entry"]
-        late = self.switch(-3_600)["entry"]
+        ahead, entry, late = self.switch(4 * 3_600), self.switch(-60), self.switch(-3_600)
         found = {each: self.screen.call(f"/api/entries/{each}")[1]["late"] for each in (ahead, entry, late)}
         self.assertEqual(found, {ahead: False, entry: False, late: True})
         now = int(time.time())
@@ -212,15 +172,6 @@ class Figures(unittest.TestCase):
         for query in ("section=ILL", "section=mill", "device=lbs", f"day={date.today().isoformat()}"):
             self.assertGreater(self.screen.call(f"/api/sheet?{query}")[1]["found"], 0, query)
 
-    def test_what_came_between(self) -> None:
-        seen = self.screen.number()
-        first = self.switch(-20, "close")
-        second = self.switch(-20, "open", f"?seen={seen}")
-        between = second["between"]
-        self.assertEqual([(each["no"], each["entry"]) for each in between], [(first["reply"]["no"], first["entry"])])
-        self.assertIn("LBS-1 close at ", between[0]["words"])
-        self.assertEqual(self.switch(-20, "close")["between"], [])
-
     def test_what_the_desk_cannot_read_is_refused_before(self) -> None:
         for fields, words in (
             ({"f5": "TEAM ÄÖ 7"}, "the crew TEAM ÄÖ 7 can't be read"),
@@ -232,21 +183,6 @@ class Figures(unittest.TestCase):
             status, shown = self.forecast(**fields)
             self.assertEqual(status, 422, fields)
             self.assertIn(words, shown["words"])
-
-    def test_times_of_the_log(self) -> None:
-        self.switch(-5)
-        told = self.screen.call("/api/log")[1][0]
-        zone = reader.Zone(support.FORTNIGHT[2])
-        self.assertLess(abs(moments.read_moment(zone, told["at"])[0].second - time.time()), 60)
-        self.assertRegex(told["at"], r"\+0[12]:00$")
-
-    def test_an_entry_while_the_desk_hangs(self) -> None:
-        """The entry is shown without the desk's replies, after one wait at most."""
-        entry = self.switch(-5)["entry"]
-        os.kill(self.screen.desk_process(), signal.SIGKILL)
-        status, shown = self.screen.call(f"/api/entries/{entry}")
-        self.assertEqual((status, shown["no"]), (200, entry))
-        support.until(lambda: self.screen.call("/health")[0] == 200, 60, "the next desk")
 
 
 SLOW_PROGRAM = """#!/bin/sh
@@ -312,7 +248,7 @@ class Reports(support.Case):
 
     def test_the_table_is_asked_for_once_a_command(self) -> None:
         desk = self.desk()
-        between = Cutter(desk.port)
+        between = support.Between(desk.port)
         self.addCleanup(between.end)
         screen = self.screen("--desk", f"http://127.0.0.1:{between.port}", book=desk.book)
         screen.log_in("ANNA")
@@ -371,18 +307,6 @@ class Faults(support.Case):
             return False
         return bool(screen.call("/health")[1]["desk"] == "here")
 
-    def test_a_lost_reply(self) -> None:
-        """The connection is cut after the desk has committed: the screen sends the command again, and it acted once."""
-        desk = self.desk()
-        proxy = Cutter(desk.port)
-        self.addCleanup(proxy.end)
-        screen = self.screen("--desk", f"http://127.0.0.1:{proxy.port}", book=desk.book)
-        screen.log_in("ANNA")
-        proxy.cuts = 2
-        status, shown = screen.post({**LIGHTHOUSE, "ref": "SCR-ANNA-1"})
-        self.assertEqual((status, shown["reply"]["no"], shown["tries"]), (200, 103, 3))
-        self.assertEqual(screen.number(), 103)
-
     def test_a_desk_that_is_away(self) -> None:
         desk = self.desk()
         screen = self.screen(desk=desk)
@@ -393,7 +317,7 @@ class Faults(support.Case):
         self.assertEqual(screen.call("/api/now")[0], 200)
         forecast = "/api/forecast?kind=switch&f1=LBS-22&f2=close&f3=1743976320&f4=5&f5=ANNA"
         self.assertEqual(screen.call(forecast)[1]["total"], -1_440)  # the copy says so
-        again = self.desk(desk.book, desk.port)
+        self.desk(desk.book, desk.port)
         support.until(lambda: screen.call("/health")[1]["desk"] == "here", what="the desk here")
 
     def test_pages_while_the_desk_hangs(self) -> None:
@@ -407,7 +331,8 @@ class Faults(support.Case):
         self.addCleanup(os.kill, desk, signal.SIGCONT)
         begun = time.monotonic()
         self.assertEqual(screen.call("/api/now")[1], before)
-        for route in (forecast, "/api/position?device=LBS-22", "/api/changes", "/api/sheet?feeder=1"):
+        routes = (forecast, "/api/position?device=LBS-22", "/api/changes", "/api/sheet?feeder=1", "/api/entries/35")
+        for route in routes:
             self.assertEqual(screen.call(route)[0], 200, route)
         self.assertLess(time.monotonic() - begun, support.limit(6.0))
 
@@ -417,38 +342,6 @@ class Faults(support.Case):
         desks = support.until(lambda: len(found := children.read_text().split()) == 2 and found, what="the copy")
         screen.process.kill()
         support.until(lambda: not any(is_running(int(desk)) for desk in desks), what="their end")
-
-
-class Cutter:
-    """A proxy that hands requests to the desk, counts the POSTs, notes the routes, and cuts some of the replies off."""
-
-    def __init__(self, desk: int):
-        self.desk, self.cuts, self.posts = desk, 0, 0
-        self.routes: list[str] = []
-        self.socket = socket.create_server(("127.0.0.1", 0))
-        self.port = self.socket.getsockname()[1]
-        threading.Thread(target=self.run, daemon=True).start()
-
-    def run(self) -> None:
-        while True:
-            try:
-                client, _ = self.socket.accept()
-            except OSError:
-                return
-            with client:
-                data = client.recv(65_536)
-                while data.startswith(b"POST") and b"}" not in data and (more := client.recv(65_536)):
-                    data += more
-                self.posts += data.startswith(b"POST")
-                self.routes += data.decode(errors="replace").split(" ")[1:2]
-                reply = talk(self.desk, data)
-                if data.startswith(b"POST") and self.cuts > 0:
-                    self.cuts -= 1
-                    continue
-                client.sendall(reply)
-
-    def end(self) -> None:
-        self.socket.close()
 
 
 def begin_post(screen: support.Screen, route: str, kind: str, body: bytes, length: int) -> socket.socket:
@@ -592,7 +485,7 @@ class Hostile(support.Case):
         """A body that stops is told so within the limit, also one that goes on too slowly, and one whose sender goes away
         ends its connection. The desk hears of none of them."""
         desk = self.desk()
-        between = Cutter(desk.port)
+        between = support.Between(desk.port)
         self.addCleanup(between.end)
         url = f"http://127.0.0.1:{between.port}"
         screen = self.screen("--desk", url, "--body-seconds", "2", book=desk.book)
@@ -641,19 +534,6 @@ class Hostile(support.Case):
 
 
 class Logins(support.Case):
-    def test_the_proxys_login(self) -> None:
-        screen = self.screen("--proxy", "127.0.0.1", "--senders", "desk-")
-        self.assertEqual(screen.call("/api/me")[0], 401)
-        screen.headers = {"X-Remote-User": "desk-anna.b"}
-        me = screen.call("/api/me")[1]
-        self.assertEqual((me["name"], me["may_send"]), ("DESK-ANNA-B", True))
-        screen.headers["X-Screen-Token"] = me["token"]
-        self.assertEqual(screen.post({**LIGHTHOUSE, "ref": "SCR-DESK-ANNA-B-1"})[0], 200)
-        screen.headers["X-Remote-User"] = "reader"
-        self.assertEqual(screen.post({**LIGHTHOUSE, "ref": "SCR-READER-1"})[0], 403)
-        screen.headers["X-Screen-Token"] = screen.call("/api/me")[1]["token"]
-        self.assertEqual(screen.post({**LIGHTHOUSE, "ref": "SCR-READER-1"})[0], 403)
-
     def test_logins_that_fold_to_one_name(self) -> None:
         """Each has a name of its own, also after the screen was started again; readers take none."""
         desk = self.desk()
@@ -698,28 +578,7 @@ class Logins(support.Case):
         self.assertEqual(screen.call("/api/me", headers={"X-Remote-User": "desk-anna"})[1]["login"], "")
         elsewhere = self.screen("--proxy", "10.0.7.1")
         self.assertEqual(elsewhere.call("/api/me", headers={"X-Remote-User": "desk-anna"})[0], 401)
-
-    def test_read_only(self) -> None:
-        screen = self.screen("--read-only")
-        screen.log_in("ANNA")
-        self.assertEqual(screen.post({**LIGHTHOUSE, "ref": "SCR-ANNA-1"})[0], 403)
-        self.assertFalse(screen.call("/api/me")[1]["may_send"])
-
-
-class Moments(unittest.TestCase):
-    def test_hours_that_come_twice_or_never(self) -> None:
-        zone = reader.Zone("CET-1CEST,M3.5.0,M10.5.0/3")
-        both = moments.read_moment(zone, "2025-10-26 02:30:00")
-        self.assertEqual([each.text for each in both], ["2025-10-26T02:30:00+02:00", "2025-10-26T02:30:00+01:00"])
-        self.assertEqual(
-            [each.second for each in moments.read_moment(zone, "2025-10-26T02:30:00+01:00")], [both[1].second]
-        )
-        for same in ("2025-10-26 02:30:00 +01:00", " 2025-10-26T01:30:00Z "):
-            self.assertEqual(moments.read_moment(zone, same), both[1:], same)
-        self.assertEqual(len(moments.read_moment(zone, "2025-04-05 06:10")), 1)
-        for wrong in ("2025-03-30 02:30:00", "tomorrow", "2025-02-30 10:00:00", "1900-01-01 00:00:00", ""):
-            with self.assertRaises(Refused, msg=wrong):
-                moments.read_moment(zone, wrong)
+        self.assertEqual(self.screen("--proxy", "127.0.0.1").call("/api/me")[0], 401)  # it names nobody
 
 
 if __name__ == "__main__":

@@ -1,14 +1,12 @@
 """What a shift asks of the screen's server: the log by time and by whom, the hand-over, undo, searches of a feeder and of a day."""
 
-import json
 import re
 import time
 import unittest
 import unittest.mock
 import urllib.parse
 from datetime import datetime, timedelta
-from html.parser import HTMLParser
-from typing import Any, cast
+from typing import Any
 
 import browser
 import support
@@ -16,26 +14,6 @@ from server import moments, reader
 from server.state import Refused
 
 ZONE = reader.Zone(support.FORTNIGHT[2])
-
-
-class Page(HTMLParser):
-    """A page's elements by tag with their attributes, and its text."""
-
-    def __init__(self, text: str):
-        super().__init__()
-        self.elements: list[tuple[str, dict[str, str | None]]] = []
-        self.words: list[str] = []
-        self.feed(text)
-        self.text = " ".join(" ".join(self.words).split())
-
-    def handle_starttag(self, tag: str, attrs: list[tuple[str, str | None]]) -> None:
-        self.elements.append((tag, dict(attrs)))
-
-    def handle_data(self, data: str) -> None:
-        self.words.append(data)
-
-    def all(self, tag: str) -> list[dict[str, str | None]]:
-        return [attributes for name, attributes in self.elements if name == tag]
 
 
 class Shift(unittest.TestCase):
@@ -51,31 +29,25 @@ class Shift(unittest.TestCase):
         cls.screen = support.Screen(cls.desk.book, desk=cls.desk)
         cls.addClassCleanup(cls.screen.end)
 
-    def send(self, login: str, status: int = 200, **command: str) -> dict[str, Any]:
+    def send(self, login: str, **command: str) -> Any:
         """Sends a command as somebody: what the page is told."""
         self.screen.log_in(login)
-        found, shown = self.screen.post({**command, "ref": f"SCR-{login}-{time.time_ns()}"})
-        self.assertEqual(found, status, shown)
-        return cast(dict[str, Any], shown)
+        return self.screen.send(**command)
 
-    def switch(self, login: str, position: str, device: str = "LBS-1", ago: int = 5) -> dict[str, Any]:
-        second = str(int(time.time()) - ago)
-        return self.send(login, kind="switch", f1=device, f2=position, f3=second, f4="1", f5=login)
+    def switch(self, login: str, position: str, device: str = "LBS-1", ago: int = 5) -> Any:
+        self.screen.log_in(login)
+        return self.screen.switch(position, device, second=int(time.time()) - ago, crew=login)
 
     def get(self, route: str, **query: str) -> Any:
         status, shown = self.screen.call(f"{route}?{urllib.parse.urlencode(query)}")
         self.assertEqual(status, 200, shown)
         return shown
 
-    def page(self, status: int = 200, **query: str) -> Page:
-        found, data = support.call(f"{self.screen.url}/shift?{urllib.parse.urlencode(query)}")
-        self.assertEqual(found, status)
-        return Page(data.decode())
-
     def test_the_log_by_time_and_by_whom(self) -> None:
         opened = self.switch("LOG-1", "open")
         self.switch("LOG-2", "close")
-        self.send("LOG-2", 422, kind="switch", f1="LBS-1", f2="open", f3="1", f4="1", f5="LOG-2")
+        refused = {"kind": "switch", "f1": "LBS-1", "f2": "open", "f3": "1", "f4": "1", "f5": "LOG-2"}
+        self.assertEqual(self.screen.post({**refused, "ref": "SCR-LOG-2-A"})[0], 422)
         one, other = self.get("/api/log", name="log-1"), self.get("/api/log", name="log-2")
         self.assertEqual([row["login"] for row in one], ["LOG-1"])
         self.assertEqual([row["outcome"] for row in other], ["refused", "saved"])
@@ -123,33 +95,6 @@ class Shift(unittest.TestCase):
         self.assertEqual(found[0]["device"], "CB-1")
         self.assertEqual(found[0]["customers"], {1: 1, 2: 3}[len(found[0]["sections"])])
 
-    def test_the_page_to_be_printed(self) -> None:
-        entry = self.switch("PAGE-1", "open", "CB-1")["entry"]
-        page = self.page(name="page-1", since="today")
-        self.switch("PAGE-1", "close", "CB-1", 0)
-        for words in (
-            "Hand-over of book",
-            "Open outages: ",
-            "CB-1",
-            f"entry {entry}",
-            "entered at",
-            "by PAGE-1",
-            "Marked days",
-        ):
-            self.assertIn(words, page.text)
-        self.assertEqual(page.all("script"), [])
-        self.assertEqual(page.all("html"), [{"lang": "en"}])
-        self.assertEqual(len(page.all("h1")), 1)
-        self.assertEqual(len(page.all("caption")), len(page.all("table")))
-        self.assertTrue(all(each.get("scope") in ("col", "row") for each in page.all("th")))
-        labels = {each["for"] for each in page.all("label")}
-        inputs = {each["id"]: each["value"] for each in page.all("input")}
-        self.assertEqual((labels, inputs), ({*inputs}, {"since": "today", "until": "", "name": "page-1"}))
-        odd = self.page(422, since='<i>"', name="x")
-        self.assertIn("Not shown as asked", odd.text)
-        self.assertEqual(odd.all("i"), [])
-        self.assertEqual([each["value"] for each in odd.all("input")], ['<i>"', "", "x"])
-
     def test_marked_days_and_who_marked_them(self) -> None:
         first, second = self.screen.call("/api/book")[1]["days"][:2]
         self.send("MARK-1", kind="mark", f1=first, f2="MARK-1")
@@ -161,7 +106,6 @@ class Shift(unittest.TestCase):
         )
         self.assertLess(abs(rows[0]["at"]["second"] - time.time()), 60)
         self.assertIsNone(rows[1]["at"])
-        self.assertIn(f"{first} MARK-1", self.page().text)
 
     def test_each_reply_has_a_way_back(self) -> None:
         """A switching is withdrawn, a correction corrected back, a withdrawal entered again, a mark taken away."""
@@ -226,10 +170,8 @@ class Pages(unittest.TestCase):
         cls.page = browser.Browser()
         cls.addClassCleanup(cls.page.end)
         cls.screen.log_in("BERT")
-        second = str(int(time.time()) - 60)
-        for number, position in enumerate(("open", "close")):
-            command = {"kind": "switch", "f1": "LBS-1", "f2": position, "f3": second, "f4": "1", "f5": "BERT"}
-            cls.screen.post({**command, "ref": f"SCR-BERT-{number}"})
+        for position in ("open", "close"):
+            cls.screen.switch(position, "LBS-1", second=int(time.time()) - 60)
 
     def test_a_search_is_kept_by_the_address(self) -> None:
         """By loading the page again, by Back, and by a link to somebody else."""
@@ -254,23 +196,6 @@ class Pages(unittest.TestCase):
         self.assertEqual(page.driver.current_url, f"{url}/sheet?order=second")
         page.open(f"{url}/sheet?day=yesterday")
         page.says("main", "No entries for day yesterday.")
-        page.open(f"{url}/sheet?section=NOSUCH")
-        page.says("main", "no section has NOSUCH in its name")
-
-    def test_undo_on_the_reply(self) -> None:
-        page, url = self.page, self.screen.url
-        page.open(f"{url}/enter?device=LBS-1&at={int(time.time()) - 5}")
-        page.fill("Cause", "1")
-        page.says(".forecast", "LOSES supply")
-        page.click(".send")
-        page.says(".outcome", "Saved as")
-        page.click(".undo")
-        page.says(".outcome .forecast", "gets back supply")
-        page.click(".outcome .send")
-        page.says(".outcome .outcome", "Saved as")
-        entry = self.screen.call("/api/sheet")[1]["rows"][0]
-        self.assertEqual((entry["device"], entry["kept"]), ("LBS-1", False))
-        self.assertEqual(page.complaints(), [])
 
     def test_the_log_and_the_hand_over(self) -> None:
         page, url = self.page, self.screen.url
@@ -280,26 +205,35 @@ class Pages(unittest.TestCase):
         page.fill("By", "nobody")
         page.says('section[aria-label="The screen\'s log"]', "Nothing was sent.")
         self.assertIn("name=nobody", page.find("main a[href^='/shift']").get_attribute("href"))
+        self.screen.switch("open", "CB-1")
+        self.addCleanup(self.screen.switch, "close", "CB-1")
         for width in (1_280, 390):
             page.resize(width, 900)
-            page.driver.get(f"{url}/shift?name=BERT")
-            page.says("h1", "Hand-over of book")
+            page.open(f"{url}/shift?name=bert&since=today")
+            said = page.says("main", "entered at")
             self.assertEqual(page.driver.execute_script("return document.documentElement.scrollWidth"), width)
-            page.says("main", "entered at")
+            for words in (
+                "sent by bert",
+                "Open outages: 1, of 2 sections and 3 customers",
+                "CB-1",
+                "entry 3",
+                "by BERT",
+                "Marked days",
+            ):
+                self.assertIn(words, said)
         page.resize(1_280, 900)
-        page.fill("Since", "never")
-        page.click("button.main")
+        self.screen.switch("close", "CB-1")
+        page.says("main", "All sections are supplied.")
+        page.fill("Since", '<i>"')
         page.says("main", "Not shown as asked")
-        self.assertEqual(page.field("Since").get_attribute("value"), "never")
+        page.driver.refresh()
+        page.ready()
+        page.says("main", "Not shown as asked")
+        self.assertEqual(
+            [page.field(name).get_attribute("value") for name in ("Since", "Until", "Sent by")], ['<i>"', "", "bert"]
+        )
+        self.assertEqual(page.all("main i"), [])
         self.assertEqual(page.complaints(), [])
-
-    def test_marked_days_on_the_year(self) -> None:
-        day = self.screen.call("/api/book")[1]["days"][3]
-        self.page.open(f"{self.screen.url}/year")
-        self.page.says("main", "No day is marked.")
-        self.screen.post({"kind": "mark", "ref": "SCR-BERT-MARK", "f1": day, "f2": "BERT"})
-        marked = self.page.says("section[aria-label='Marked days']", day)
-        self.assertIn("BERT", marked)
 
 
 class Stops(support.Case):
@@ -308,18 +242,17 @@ class Stops(support.Case):
         desk = self.desk(support.small("stopped"))
         screen = support.Screen(desk.book, desk=desk)
         screen.log_in("ANNA")
-        command = {
+        screen.switch("open", "LBS-1", second=int(time.time()) - 50)
+        screen.end()
+        closed = {
             "kind": "switch",
             "f1": "LBS-1",
-            "f2": "open",
-            "f3": str(int(time.time()) - 50),
+            "f2": "close",
+            "f3": str(int(time.time()) - 5),
             "f4": "1",
             "f5": "ANNA",
         }
-        self.assertEqual(screen.post({**command, "ref": "SCR-ANNA-1"})[0], 200)
-        screen.end()
-        closed = {**command, "ref": "OMS-1", "f2": "close", "f3": str(int(command["f3"]) + 45)}
-        self.assertEqual(desk.post(closed)[0], 200)
+        self.assertEqual(desk.post({**closed, "ref": "OMS-1"})[0], 200)
         again = self.screen(desk=desk)
         rows = again.call("/api/log")[1]
         self.assertEqual([row["kind"] for row in rows], ["elsewhere", "switch"])
@@ -333,15 +266,11 @@ class Stops(support.Case):
 
     def test_a_period_that_is_over(self) -> None:
         """Today is no day of it: that is said. Its hand-over shows supply at its last second."""
-        screen = self.screen("--no-desk", "--name", "North <1>", "--training")
+        screen = self.screen("--no-desk")
         status, shown = screen.call("/api/sheet?day=today")
         self.assertEqual(status, 422)
         self.assertRegex(shown["words"], r"today, \d{4}-\d\d-\d\d, is no day of the book's period")
         self.assertEqual(screen.call("/api/changes")[1]["as_of"]["text"], "2025-04-06T23:59:59+02:00")
-        status, data = support.call(f"{screen.url}/shift")
-        page = Page(data.decode())
-        self.assertEqual((status, page.all("body")), (200, [{"class": "training"}]))
-        self.assertIn("Hand-over of TRAINING: North <1>", page.text)
 
 
 class Typed(unittest.TestCase):
@@ -368,6 +297,7 @@ class Typed(unittest.TestCase):
             "Yesterday 2200": "2026-11-27 22:00:00",
             "Today": "2026-11-28 00:00:00",
             " 1795872600 ": "2026-11-28 14:30:00",
+            "2026-10-25 02:30 +01:00": "2026-10-25 02:30:00",
         }.items():
             self.assertEqual([each.text[:19].replace("T", " ") for each in self.read(typed)], [words], typed)
         self.assertEqual(self.read("1905", may_come=True)[0].text[:16], "2026-11-28T19:05")
@@ -379,6 +309,9 @@ class Typed(unittest.TestCase):
             "28.11.2026": "is typed as",
             "19": "is typed as",
             "28.11.99999 10:00": "is typed as",
+            "tomorrow": "is typed as",
+            "": "is typed as",
+            "29.3.2026 02:30": "the clock of the book's zone never shows 29.3.2026 02:30",
             "1.1.1900 10:00": "lies outside of what a book can hold",
         }.items():
             with self.assertRaisesRegex(Refused, re.escape(words), msg=wrong):
@@ -389,6 +322,8 @@ class Typed(unittest.TestCase):
         first, second = 1_792_888_200, 1_792_891_800
         for now, meant in ((first - 61, [first - 86_400]), (first, [first]), (second, [first, second])):
             self.assertEqual([each.second for each in self.read("0230", now)], meant, now)
+        both = self.read("2026-10-25 02:30:00")
+        self.assertEqual([each.text for each in both], [f"2026-10-25T02:30:00+0{hours}:00" for hours in (2, 1)])
 
     def read(self, typed: str, now: int = 1_795_872_600, may_come: bool = False) -> list[moments.Moment]:
         with unittest.mock.patch("time.time", return_value=float(now)):

@@ -183,7 +183,7 @@ class Pages(test_browser.Case):
         page = self.one
         page.open(f"{self.live.url}/")
         for browser_of in self.browsers:
-            for route in ("/", "/sheet?entry=1", "/network", "/year", "/enter"):
+            for route in ("/", "/sheet?entry=1", "/network", "/year", "/shift", "/enter"):
                 browser_of.open(self.live.url + route)
                 browser_of.find("main table, form")
                 browser_of.unfold("main")
@@ -198,6 +198,31 @@ class Pages(test_browser.Case):
         self.assertEqual(said[:10], time.strftime("%Y-%m-%d", time.gmtime(time.time() + 3_600)))
         slider.send_keys(Keys.PAGE_DOWN)
         page.wait(lambda: slider.get_attribute("aria-valuetext")[:10] < said[:10], "the day before")
+
+    def test_three_questions_by_what_the_page_says(self) -> None:
+        """Who is out on feeder 3, what happened yesterday, hand over: by words that stand there, three taps each at most."""
+        self.live.switch("open", "LBS-31", second=int(time.time()) - 86_400)
+        for page in self.browsers:
+            narrow = page is self.other
+            page.open(f"{self.live.url}/")
+            page.says("main h2", "2 outages")
+            for words in ["Filter, order, time"] if narrow else []:
+                page.tap_on(words)
+            page.fill("Feeder", "3")
+            page.says("main h2", "1 of 2 outages")
+            self.assertIn("LBS-31", page.text("table.outages"))
+            page.tap_on("Switching log")
+            page.wait(lambda: page.text("h1") == "Switching log", "the log")
+            page.ready()
+            for words in ["Search", "Yesterday"] if narrow else ["Yesterday"]:
+                page.tap_on(words)
+            page.says("main h2", "1 of 2 entries")
+            self.assertIn("LBS-31", page.text("main table"))
+            page.tap_on("Hand-over")
+            page.wait(lambda: page.text("h1") == "Hand-over", "the hand-over")
+            page.ready()
+            page.says("main", "Open outages: 2, of 2 sections")
+            self.assertLess(page.driver.execute_script(PLACE, page.find("main button.main"))[1], 844)  # Print
 
     def test_a_customer_is_found_by_its_number(self) -> None:
         page = self.one
@@ -251,7 +276,8 @@ class LargeStorm(support.Case):
             time.sleep(max(0.0, begun + number * STORM_SECONDS / OUTAGES - time.monotonic()))
             reader.point_at(reader.find(f"[data-key=entry-1] td:nth-child({1 + number % 2})"))  # as a hand does
             sent, before = time.monotonic(), [busy(page) for page in pages]
-            last = str(live.switch("open", device))
+            began = int(time.time()) - 90_000 * (number % 2)  # half of them the day before
+            last = str(live.switch("open", device, second=began)["reply"]["no"])
             for page in pages:
                 page.driver.execute_async_script(SHOWS, last)
             slowest = max(slowest, time.monotonic() - sent)

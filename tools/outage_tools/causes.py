@@ -1,22 +1,15 @@
 """Causes and groups of causes: their parts of the customer-seconds and of the indices."""
 
-from dataclasses import dataclass
+from collections.abc import Iterable
+from dataclasses import dataclass, replace
 from fractions import Fraction
 
 from outage_tools.compare import Checked
-from outage_tools.counts import SETS, quotient
+from outage_tools.counts import SETS, Counts, Rates, quotient
 from outage_tools.forms import Figures, Value
+from outage_tools.interruptions import LONGEST_MOMENTARY
 from outage_tools.lists import Groups, groups_in_order, told_missing
-from outage_tools.rates import (
-    RATES_COLUMNS,
-    Rates,
-    Tally,
-    both,
-    quotient_columns,
-    rates_values,
-    tallies,
-    tallies_of_sets,
-)
+from outage_tools.rates import RATES_COLUMNS, both, quotient_columns, rates_values, seconds_of_sets
 from outage_tools.rows import CAUSE
 
 
@@ -33,14 +26,12 @@ class CauseRow:
 
 def cause_rows(found: Checked) -> list[CauseRow]:
     """The causes, greatest first."""
-    book, served = found.book, found.book.served_seconds()
-    total = sum(amount for (dim, _), amount in book.postings.items() if dim == CAUSE)
-    sums = tallies(found.interruptions, lambda each: each.cause)
-    rows = []
-    for code, name in book.causes.items():
-        posted = book.postings[CAUSE, code]
-        rates = Rates(sums.get(code, Tally()), served, book.period.length)
-        rows.append(CauseRow(code, name, posted, quotient(posted, total), rates))
+    postings, rates = found.book.postings, found.selected("cause")["all"]
+    total = sum(amount for (dim, _), amount in postings.items() if dim == CAUSE)
+    rows = [
+        CauseRow(code, name, postings[CAUSE, code], quotient(postings[CAUSE, code], total), rates[name])
+        for code, name in found.book.causes.items()
+    ]
     return sorted(rows, key=lambda row: (-row.posted, row.code))
 
 
@@ -74,21 +65,24 @@ class CauseGroup:
     rates: Rates
 
 
+def rates_of_causes(found: Checked, codes: Iterable[int], which: str, over: int = LONGEST_MOMENTARY) -> Rates:
+    """CI, CSI and MI of some causes together, over all customers served; who had several of them isn't known."""
+    selected, whole = found.selected("cause", over)[which], found.whole[which]
+    parts = [selected[found.book.causes[code]].counts for code in codes]
+    return Rates(replace(sum(parts, Counts()), with_some=[0] * 10), whole.served, whole.length)
+
+
 def cause_group_rows(found: Checked, of_causes: Groups) -> list[CauseGroup]:
     """Each group in both sets, as the list names them first, and what is in no group, where there is anything."""
-    book, served = found.book, found.book.served_seconds()
-    sums = tallies_of_sets(found, lambda each: of_causes.get(each.cause, ""))
-    names = groups_in_order(of_causes)
-    if any(sums[which].get("") for which in SETS):
-        names.append("")
+    seconds = seconds_of_sets(found, lambda each: of_causes.get(each.cause, ""))
+    names = groups_in_order(of_causes) + [""] * ("" in seconds["all"])
     rows = []
     for name in names:
-        causes = tuple(text for code, text in book.causes.items() if of_causes.get(code, "") == name)
+        causes = {code: text for code, text in found.book.causes.items() if of_causes.get(code, "") == name}
         for which in SETS:
-            tally, total = sums[which].get(name, Tally()), sum(each.customer_seconds for each in sums[which].values())
-            rates = Rates(tally, served, book.period.length)
-            share = quotient(tally.customer_seconds, total)
-            rows.append(CauseGroup(name, causes, which, tally.customer_seconds, share, rates))
+            share = quotient(seconds[which][name], seconds[which].total())
+            rates = rates_of_causes(found, causes, which)
+            rows.append(CauseGroup(name, tuple(causes.values()), which, seconds[which][name], share, rates))
     return rows
 
 

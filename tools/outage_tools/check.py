@@ -49,7 +49,7 @@ from outage_tools.implausible.told import (
 from outage_tools.keys import beside, keys_for
 from outage_tools.normal_state import SOURCE, During, Island, Loop, TestedNetwork, during, moments_of
 from outage_tools.oms import causes, convert, customers, network, outages, told
-from outage_tools.oms.complaints import CHANGED, Complaint, Complaints, Notes
+from outage_tools.oms.complaints import CHANGED, Complaint, Complaints, Notes, lines_of
 from outage_tools.oms.conversion import Conversion
 from outage_tools.oms.convert import Run
 from outage_tools.oms.files import Export, format_of
@@ -62,6 +62,7 @@ ABOVE = 3  # something implausible has a greater share than --fail-above
 MOST_NAMES = 8  # of one finding in a text
 MOST_FINDINGS = 20  # of one topic in a text
 MOST_ROWS = 3  # of the rows that have the same
+MOST_ALIKE = 5  # of many rows that are refused for the same
 
 
 # Does it fit.
@@ -305,10 +306,19 @@ def topic_text(topic: Topic, findings: list[Finding]) -> Iterator[str]:
     count = len(findings)
     note = "" if any(finding.is_wrong for finding in findings) else ", not wrong by itself"
     yield f"{topic.value} ({count}{note}):"
+    if topic is Topic.REFUSED and count > MOST_FINDINGS:
+        yield from (f"  {line}" for line in lines_of([*map(refused_of, findings)], "--json prints", MOST_ALIKE))
+        return
     for finding in findings[:MOST_FINDINGS]:
         yield f"  {finding.text}"
     if count > MOST_FINDINGS:
         yield f"  and {count - MOST_FINDINGS} more, which --json prints"
+
+
+def refused_of(finding: Finding) -> Complaint:
+    """The complaint about a row, of which a finding was made."""
+    (place,) = finding.places
+    return Complaint(place.file, place.row, finding.text.removeprefix(str(Complaint(place.file, place.row, ""))))
 
 
 @dataclass(frozen=True)

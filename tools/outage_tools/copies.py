@@ -36,6 +36,16 @@ def copy_of(path: Path) -> Iterator[Path]:
         yield copy
 
 
+def second_copy(copy: Path) -> Path:
+    """A copy of a copy, made once: for the program, which takes no file that a reader has open."""
+    second = copy.with_name(f"second-{copy.name}")
+    if not second.exists():
+        shutil.copyfile(copy, second)
+        if log_of(copy).exists():
+            shutil.copyfile(log_of(copy), log_of(second))
+    return second
+
+
 def log_of(path: Path) -> Path:
     """The log beside a book's file."""
     return path.with_name(path.name + "-wal")

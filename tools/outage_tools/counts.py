@@ -1,12 +1,11 @@
-"""Counts over interruptions, and the indices as exact fractions."""
+"""Counts, the indices as exact fractions of them, and how these are written."""
 
-from collections import Counter
-from collections.abc import Iterable
 from dataclasses import dataclass, field
 from fractions import Fraction
+from functools import cached_property
+from operator import add
 
 from outage_tools.interruptions import Interruption
-from outage_tools.rows import Block
 
 SETS = ("all", "unmarked")
 
@@ -20,21 +19,22 @@ class Counts:
     momentary: int = 0
     with_some: list[int] = field(default_factory=lambda: [0] * 10)
 
-
-def counts_of(interruptions: Iterable[Interruption]) -> Counts:
-    """The counts over some interruptions."""
-    counts, numbers = Counts(), Counter[Block]()
-    for each in interruptions:
+    def add(self, each: Interruption) -> None:
+        """Adds one of the program's interruptions; whose it is isn't told, so `with_some` stays."""
         if each.is_sustained:
-            counts.sustained += each.customers
-            counts.sustained_seconds += each.customer_seconds
-            numbers[each.block] += 1
+            self.sustained += each.customers
+            self.sustained_seconds += each.customer_seconds
         else:
-            counts.momentary += each.customers
-    for block, number in numbers.items():
-        for n in range(min(10, number)):
-            counts.with_some[n] += block.customers
-    return counts
+            self.momentary += each.customers
+
+    def __add__(self, other: "Counts") -> "Counts":
+        """The counts of both, whose customers are distinct."""
+        return Counts(
+            self.sustained + other.sustained,
+            self.sustained_seconds + other.sustained_seconds,
+            self.momentary + other.momentary,
+            list(map(add, self.with_some, other.with_some)),
+        )
 
 
 def quotient(numerator: int, denominator: int) -> Fraction | None:
@@ -54,6 +54,45 @@ def indices_of(counts: Counts, served_seconds: int, length: int) -> dict[str, Fr
     for n, customers in enumerate(counts.with_some, 1):
         indices[f"CEMI-{n}"] = quotient(customers * length, served_seconds)
     return indices
+
+
+@dataclass(frozen=True)
+class Rates:
+    """Counts over the customers who were served: `served` customer-seconds in service in `length` seconds."""
+
+    counts: Counts
+    served: int
+    length: int
+
+    @property
+    def customers(self) -> Fraction | None:
+        """Customers served on average."""
+        return quotient(self.served, self.length)
+
+    @cached_property
+    def indices(self) -> dict[str, Fraction | None]:
+        """The fifteen quotients by name."""
+        return indices_of(self.counts, self.served, self.length)
+
+    @property
+    def maifi(self) -> Fraction | None:
+        """Momentary interruptions per customer served, each by itself."""
+        return quotient(self.counts.momentary * self.length, self.served)
+
+    @property
+    def saifi(self) -> Fraction | None:
+        """Interruptions per customer served."""
+        return self.indices["SAIFI"]
+
+    @property
+    def saidi(self) -> Fraction | None:
+        """Minutes per customer served."""
+        return self.indices["SAIDI"]
+
+    @property
+    def caidi(self) -> Fraction | None:
+        """Minutes per interruption."""
+        return self.indices["CAIDI"]
 
 
 def decimal_text(value: Fraction | None, places: int = 3) -> str:

@@ -5,19 +5,15 @@ from dataclasses import dataclass
 from datetime import date
 
 from outage_tools.compare import Checked
-from outage_tools.counts import SETS
+from outage_tools.counts import SETS, Counts, Rates
 from outage_tools.forms import Figures, Value
 from outage_tools.rates import (
     GROUP_COLUMNS,
     GroupRow,
-    Rates,
-    Tally,
     both,
-    counted,
+    counts_by,
     group_values,
     quotient_columns,
-    tallies,
-    tallies_of_sets,
     yes_if,
 )
 from outage_tools.rows import DAY, Period
@@ -41,14 +37,13 @@ class DayRow:
 def day_rows(found: Checked) -> list[DayRow]:
     """Every day of the period."""
     book, period = found.book, found.book.period
-    served = book.served_seconds()
-    begun = tallies(found.interruptions, lambda each: period.day_of(each.since))
+    begun = counts_by(found.interruptions, lambda each: period.day_of(each.since))
     return [
         DayRow(
             day=day,
             seconds=period.bounds[number + 1] - period.bounds[number],
             posted=book.postings[DAY, number],
-            begun=Rates(begun.get(number, Tally()), served, period.length),
+            begun=Rates(begun.get(number, Counts()), found.whole["all"].served, period.length),
             engineer=book.marks.get(number),
         )
         for number, day in enumerate(period.days)
@@ -78,14 +73,14 @@ def days(found: Checked) -> Figures:
 
 
 def day_values(row: DayRow) -> list[Value]:
-    tally = row.begun.tally
+    begun = row.begun.counts
     return [
         row.day.isoformat(),
         row.seconds,
         row.posted,
-        tally.sustained,
-        tally.momentary,
-        tally.sustained_seconds,
+        begun.sustained,
+        begun.momentary,
+        begun.sustained_seconds,
         *both(row.begun.saidi),
         yes_if(row.is_marked),
         row.engineer or "",
@@ -97,18 +92,10 @@ def months_of_days(period: Period) -> list[str]:
     return [day.strftime("%Y-%m") for day in period.days]
 
 
-def month_bounds(period: Period) -> dict[str, tuple[int, int]]:
-    """The months' parts of the period: their first second and their end."""
-    bounds: dict[str, tuple[int, int]] = {}
-    for number, month in enumerate(months_of_days(period)):
-        bounds[month] = bounds.get(month, (period.bounds[number], 0))[0], period.bounds[number + 1]
-    return bounds
-
-
 def unmarked_seconds(found: Checked) -> dict[int, int]:
     """The customer-seconds of the unmarked interruptions that lie in each day."""
     seconds: dict[int, int] = defaultdict(int)
-    for each in counted(found, "unmarked"):
+    for each in found.counted("unmarked"):
         for day, length in found.book.period.parts(each.since, each.until):
             seconds[day] += each.customers * length
     return seconds
@@ -126,16 +113,8 @@ def month_seconds(found: Checked) -> dict[str, dict[str, int]]:
 
 def month_rows(found: Checked) -> list[GroupRow]:
     """The months' parts of the period."""
-    book, months = found.book, months_of_days(found.book.period)
-    seconds = month_seconds(found)
-    sums = tallies_of_sets(found, lambda each: months[book.period.day_of(each.since)])
-    rows = []
-    for month, (first, end) in month_bounds(book.period).items():
-        served = sum(block.seconds(first, end) for block in book.blocks)
-        for name in SETS:
-            rates = Rates(sums[name].get(month, Tally()), served, end - first)
-            rows.append(GroupRow(month, name, seconds[name][month], rates))
-    return rows
+    selected, seconds = found.selected("month"), month_seconds(found)
+    return [GroupRow(key, name, seconds[name][key], selected[name][key]) for key in selected["all"] for name in SETS]
 
 
 def months(found: Checked) -> Figures:

@@ -3,19 +3,19 @@
 from collections import defaultdict
 from collections.abc import Callable, Sequence
 from dataclasses import dataclass, field
-from fractions import Fraction
 from typing import Any
 
 from outage_tools.cli import Parser
 from outage_tools.compare import Checked, open_book
-from outage_tools.counts import SETS, Counts, counts_of, indices_of, quotient_text
+from outage_tools.counts import SETS, Counts, Rates, quotient_text
 from outage_tools.district_cut import TIE_COLUMNS
 from outage_tools.district_files import read_rows
 from outage_tools.errors import BookError
+from outage_tools.graphs import reached
 from outage_tools.parallel import over_books
 from outage_tools.rows import CAUSE, GRID, Book, Device, Entry
 from outage_tools.sums import District, add_up, district_of, tables_given
-from outage_tools.supply import Run, Supply, bounds_of_lives, interruptions_of
+from outage_tools.supply import Run, Supply, bounds_of_lives, counts_of, interruptions_of
 
 
 @dataclass(frozen=True)
@@ -136,14 +136,6 @@ class DistrictSupply(Supply):
         self.is_closed[device.number] = is_closed
         return True
 
-    def reached_from(self, found: set[int], reached: set[int]) -> set[int]:
-        """All that some nodes lead to, with what was reached before."""
-        reached = set(reached)
-        while found:
-            reached |= found
-            found = set().union(*[self.beside[node] for node in found]) - reached
-        return reached
-
 
 class Utility:
     """The districts of a utility with the ties between them, second by second: who is supplied as no cut had been made."""
@@ -155,8 +147,8 @@ class Utility:
             for name, device in zip(tie.districts, tie.devices):
                 numbers[name].add(device)
         self.supplies = {name: DistrictSupply(book, frozenset(numbers[name])) for name, book in books.items()}
-        self.own = {name: supply.supplied() for name, supply in self.supplies.items()}
-        self.supplied: dict[str, set[int]] = {}
+        self.own = {name: supply.supplied for name, supply in self.supplies.items()}
+        self.supplied: dict[str, frozenset[int]] = {}
         self.find_supplied()
 
     def is_closed(self, tie: Tie) -> bool:
@@ -173,12 +165,12 @@ class Utility:
                 is_reached = [node in self.supplied[name] for name, node in zip(tie.districts, tie.nodes)]
                 if is_reached[0] != is_reached[1]:
                     name, node = next((n, x) for n, x, is_in in zip(tie.districts, tie.nodes, is_reached) if not is_in)
-                    self.supplied[name] = self.supplies[name].reached_from({node}, self.supplied[name])
+                    self.supplied[name] = self.supplied[name] | reached(self.supplies[name].closed, node)
                     changed = True
 
     def changed(self, name: str) -> None:
         """A position of a district changed."""
-        self.own[name] = self.supplies[name].supplied()
+        self.own[name] = self.supplies[name].supplied
         self.find_supplied()
 
 
@@ -301,16 +293,11 @@ def check_cut(ties_path: str, books: dict[str, Part]) -> CheckedCut:
     costs = [cost_of(name, found, swept.runs[name]) for name, found in books.items()]
     saidi = {}
     for each in SETS:
-        seconds = sum(cost.counts[each].sustained_seconds for cost in costs)
-        more = Counts(sustained_seconds=sums.counts[each].sustained_seconds + seconds)
-        value = sums.indices(each)["SAIDI"]
-        saidi[each] = quotient_text(value), quotient_text(saidi_of(more, sums.served_seconds, sums.length))
+        more = sum((cost.counts[each] for cost in costs), sums.counts[each])
+        value = sums.rates(each).saidi
+        saidi[each] = quotient_text(value), quotient_text(Rates(more, sums.served_seconds, sums.length).saidi)
     zone = next(iter(plain.values())).period.zone
     return CheckedCut(ties, swept.times, costs, saidi, zone.text_of)
-
-
-def saidi_of(counts: Counts, served_seconds: int, length: int) -> Fraction | None:
-    return indices_of(counts, served_seconds, length)["SAIDI"]
 
 
 def write_check(checked: CheckedCut) -> None:

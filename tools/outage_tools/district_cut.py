@@ -8,6 +8,7 @@ from typing import Any
 
 from outage_tools.district_files import Export, Row, export_of, read_rows, write_rows, written_to
 from outage_tools.errors import BookError
+from outage_tools.graphs import graph_of, networkx
 from outage_tools.oms.files import DELIMITERS
 
 MOST_NODES, MOST_DEVICES, MOST_CUSTOMERS, MOST_FEEDERS = 1_024, 2_048, 100_000, 255
@@ -15,6 +16,7 @@ ROOM = 20  # per cent of each bound that a cut leaves free
 GRID_NAME = "GRID"
 TIE_COLUMNS = ("tie", "district", "node", "other_district", "other_node")
 GIS_COLUMNS = ("type", "name", "feeder", "from", "to", "normal")
+COUNT_COLUMNS = ("customers", "customer_minutes")  # of a ticket, by the outage management system
 UNREAD = "rows can't be read, and nothing was written:"
 
 
@@ -180,26 +182,10 @@ class District:
 
 def joined_nodes(network: Network) -> list[list[str]]:
     """The nodes that normally closed devices join, in the order of the export."""
-    beside: dict[str, list[str]] = {node: [] for node in network.nodes}
-    for link in network.links:
-        if link.is_closed and len(link.nodes) == 2:
-            a, b = link.ends
-            beside[a].append(b)
-            beside[b].append(a)
-    groups: list[list[str]] = []
-    seen: set[str] = set()
-    for node in network.nodes:
-        if node in seen:
-            continue
-        group = [node]
-        seen.add(node)
-        for each in group:
-            for other in beside[each]:
-                if other not in seen:
-                    seen.add(other)
-                    group.append(other)
-        groups.append(group)
-    return groups
+    closed = (link for link in network.links if link.is_closed and len(link.nodes) == 2)
+    graph = graph_of(network.nodes, ((*link.ends, link.name) for link in closed))
+    places = {node: place for place, node in enumerate(network.nodes)}
+    return [sorted(group, key=places.__getitem__) for group in networkx().connected_components(graph)]
 
 
 def areas_of(network: Network) -> list[Area]:
@@ -256,7 +242,8 @@ def refuse_large(areas: Sequence[Area]) -> None:
     passed = [(area.name, District([area]).size.passes(100)) for area in areas]
     large = [f"{name}: {', '.join(bounds)}" for name, bounds in passed if bounds]
     if large:
-        raise BookError("\n".join(["a book doesn't hold what normally closed devices join here:", *large]))
+        way = "join what is never switched, as outagebook-sections --only-opened does"
+        raise BookError("\n".join(["a book doesn't hold what normally closed devices join here:", *large, way]))
 
 
 def cut_areas(network: Network, areas: Sequence[Area], old: dict[str, str], room: int) -> Cut:
@@ -382,12 +369,33 @@ class Writing:
                 writers[self.district[label(record[place])]].writerow(record)
 
     def write_oms(self, oms: Export) -> None:
-        """The outages of each district: those of a tie go to both of its districts."""
-        place = oms.place("device")
+        """The outages of each district: those of a tie go to both of its districts, with the counts of customers in one of them."""
+        device, ticket = oms.place("device"), oms.columns.index("ticket") if "ticket" in oms.columns else None
+        counts = [oms.place(column) for column in COUNT_COLUMNS if column in oms.columns]
+        homes = self.homes_of_tickets(oms, device, ticket) if ticket is not None and counts else {}
         with written_to(self.folder, self.names, "oms.csv", oms.header) as writers:
             for _, record in oms.records([]):
-                for district in self.of_device[label(record[place])]:
-                    writers[district].writerow(record)
+                home = homes.get(record[ticket].strip()) if ticket is not None else None
+                for district in self.of_device[label(record[device])]:
+                    is_home = not home or district in home
+                    writers[district].writerow(record if is_home else without(record, counts))
+
+    def homes_of_tickets(self, oms: Export, device: int, ticket: int) -> dict[str, set[str]]:
+        """Of each ticket that switches a tie between two districts, those of its other devices: there its customers are."""
+        homes: dict[str, set[str]] = {}
+        for _, record in oms.records([]):
+            if len(self.of_device[label(record[device])]) > 1:
+                homes[record[ticket].strip()] = set()
+        for _, record in oms.records([]):
+            districts = self.of_device[label(record[device])]
+            if record[ticket].strip() in homes and len(districts) == 1:
+                homes[record[ticket].strip()].update(districts)
+        return homes
+
+
+def without(record: list[str], places: Sequence[int]) -> list[str]:
+    """A row without some of its fields."""
+    return ["" if place in places else field for place, field in enumerate(record)]
 
 
 def check_outages(oms: Export, network: Network) -> None:

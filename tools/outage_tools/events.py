@@ -8,11 +8,11 @@ from dataclasses import dataclass, field
 from fractions import Fraction
 
 from outage_tools.compare import Checked
-from outage_tools.counts import quotient
+from outage_tools.counts import Counts, quotient
 from outage_tools.forms import Figures, Value
 from outage_tools.interruptions import Interruption
 from outage_tools.outages import references
-from outage_tools.rates import Tally, both, quotient_columns
+from outage_tools.rates import both, quotient_columns
 from outage_tools.rows import Book, Entry
 
 Rule = re.Pattern[str]
@@ -53,16 +53,20 @@ class Event:
         return max(each.until for each in self.interruptions)
 
     @property
-    def tally(self) -> Tally:
-        tally = Tally()
+    def counts(self) -> Counts:
+        counts = Counts()
         for each in self.interruptions:
-            tally.add(each)
-        return tally
+            counts.add(each)
+        return counts
+
+    @property
+    def customer_seconds(self) -> int:
+        return sum(each.customer_seconds for each in self.interruptions)
 
     @property
     def minutes(self) -> Fraction | None:
         """Customer-minutes without supply."""
-        return quotient(self.tally.customer_seconds, 60)
+        return quotient(self.customer_seconds, 60)
 
     def causes(self, book: Book) -> str:
         """The causes, in the order in which they come."""
@@ -85,7 +89,7 @@ class Event:
 
 def rank(event: Event) -> tuple[int, int, str]:
     """By the most customer-seconds, then by the first second."""
-    return -event.tally.customer_seconds, event.first, event.name
+    return -event.customer_seconds, event.first, event.name
 
 
 def events_of(found: Checked, rule: Rule = DEFAULT_RULE) -> list[Event]:
@@ -150,7 +154,7 @@ def told_unfit(all_events: Iterable[Event]) -> list[str]:
 
 def event_values(book: Book, event: Event) -> list[Value]:
     """The values of EVENT_COLUMNS."""
-    zone, tally = book.period.zone, event.tally
+    zone, counts = book.period.zone, event.counts
     return [
         event.name,
         "yes" if event.fits else "",
@@ -159,9 +163,9 @@ def event_values(book: Book, event: Event) -> list[Value]:
         len(event.steps),
         len(event.entries),
         event.customers,
-        tally.sustained,
-        tally.momentary,
-        tally.customer_seconds,
+        counts.sustained,
+        counts.momentary,
+        event.customer_seconds,
         *both(event.minutes),
         " ".join(map(str, event.feeders(book))),
         event.causes(book),

@@ -1,35 +1,28 @@
 """What each device feeds with all devices in their normal positions, as of a second."""
 
 from bisect import bisect_right
-from collections import defaultdict
 from dataclasses import dataclass, field
 from functools import cached_property
 
-from outage_tools.rows import GRID, Book
+from outage_tools.graphs import Graph, graph_of, reached
+from outage_tools.rows import GRID, Book, Device
 from outage_tools.supply import bounds_of_lives
 
-Ways = dict[int, list[tuple[int, int]]]  # for each node, the numbers of the devices at it, each with the node behind it
+
+def ways_of(book: Book, second: int) -> Graph:
+    """The devices that are closed normally and are there at a second, by their numbers."""
+    there = (device for device in book.devices if device.is_closed and device.is_alive(second))
+    return graph_of(book.nodes, ((device.a, device.b, device.number) for device in there))
 
 
-def ways_of(book: Book, second: int) -> Ways:
-    """The ways over the devices that are closed normally and are there at a second."""
-    ways: Ways = defaultdict(list)
-    for device in book.devices:
-        if device.is_closed and device.is_alive(second):
-            ways[device.a].append((device.number, device.b))
-            ways[device.b].append((device.number, device.a))
-    return ways
-
-
-def reached(ways: Ways, without: int | None = None) -> frozenset[int]:
+def reached_without(ways: Graph, device: Device) -> frozenset[int]:
     """The nodes to which a walk leads from GRID that doesn't use a device."""
-    found, waiting = {GRID}, [GRID]
-    while waiting:
-        for device, node in ways.get(waiting.pop(), ()):
-            if device != without and node not in found:
-                found.add(node)
-                waiting.append(node)
-    return frozenset(found)
+    if not ways.has_edge(device.a, device.b, device.number):
+        return frozenset(reached(ways, GRID))
+    ways.remove_edge(device.a, device.b, device.number)
+    found = frozenset(reached(ways, GRID))
+    ways.add_edge(device.a, device.b, device.number)
+    return found
 
 
 @dataclass(frozen=True)
@@ -37,7 +30,7 @@ class Feeding:
     """The ways of a book between moments at which lives begin or end, and what was found behind devices."""
 
     book: Book
-    ways: dict[int, Ways] = field(default_factory=dict)
+    ways: dict[int, Graph] = field(default_factory=dict)
     found: dict[tuple[int, int | None], frozenset[int]] = field(default_factory=dict)
 
     @cached_property
@@ -50,7 +43,10 @@ class Feeding:
         if key not in self.found:
             if key[0] not in self.ways:
                 self.ways[key[0]] = ways_of(self.book, second)
-            self.found[key] = reached(self.ways[key[0]], without)
+            ways = self.ways[key[0]]
+            self.found[key] = (
+                frozenset(reached(ways, GRID)) if without is None else reached_without(ways, self.book.devices[without])
+            )
         return self.found[key]
 
     def behind(self, device: int, second: int) -> frozenset[int]:

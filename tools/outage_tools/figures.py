@@ -21,7 +21,7 @@ from outage_tools import indices as further
 from outage_tools.causes import cause_groups, causes
 from outage_tools.cli import Parser, add_table_arguments, run_job
 from outage_tools.compare import Checked, open_book
-from outage_tools.counts import SETS, decimal_text, fraction_text, index_decimals, indices_of
+from outage_tools.counts import SETS, decimal_text, fraction_text, index_decimals
 from outage_tools.customers import customers
 from outage_tools.days import days, months
 from outage_tools.events import DEFAULT_RULE, events, read_rule
@@ -72,23 +72,21 @@ def indices(found: Checked, hours: Sequence[Fraction] = further.HOURS, loads: fu
         "decimal": "three decimals, five of ASAI, rounded half up",
         "unit": "its unit",
         "definition": "its quotient",
-        "from": "program: equal to the annual table; computed here: no program prints it",
+        "from": "program: it prints the index, in the annual table or by `outagebook indices`; computed here: from its interruptions",
     }
     rows: list[list[Value]] = []
     more = further.computed(found, hours, loads)
     for name in SETS:
         counts = found.counts[name]
-        values = indices_of(counts, found.book.served_seconds(), found.book.period.length)
-        for index, value in values.items():
+        for index, value in found.whole[name].indices.items():
             decimals = decimal_text(value, index_decimals(index))
             rows.append([index, name, fraction_text(value), decimals, *meaning_of(index), "program"])
         rows.append(["SUSTAINED", name, counts.sustained, "", *meaning_of("SUSTAINED"), "program"])
         rows.append(["MOMENTARY", name, counts.momentary, "", *meaning_of("MOMENTARY"), "program"])
-        rows += [
-            [index, name, *both(value), *further.meaning_of(index), "computed here"]
-            for index, value in more[name].items()
-        ]
-    about = ["Those from the program are equal to its annual table, figure by figure.", TERMS, further.TERMS]
+        for index, value in more[name].items():
+            source = "program" if index in further.OF_PROGRAM else "computed here"
+            rows.append([index, name, *both(value), *further.meaning_of(index), source])
+    about = ["Those from the program are what it prints, figure by figure.", TERMS, further.TERMS]
     return Figures("indices", about + ([loads.about] if loads else []), columns, rows)
 
 

@@ -1,7 +1,7 @@
 """What a form asks of a period, line by line: EIA-861 (Schedule 3, Part B) and the indicators of European regulators (CEER).
 
-Lines of both sets are the words of the program's annual table. Lines of some causes alone are counted here, by a list of
-groups of causes. What a book can't say is an empty line, which says why.
+Lines of all causes are the words of the program's annual table, or its indices by another limit. Of lines of some causes alone,
+by a list of groups of causes, the program's counts by cause are added up. What a book can't say is an empty line, which says why.
 """
 
 from collections.abc import Callable, Iterator
@@ -9,19 +9,26 @@ from dataclasses import dataclass
 from datetime import date
 from fractions import Fraction
 
+from outage_tools.causes import rates_of_causes
 from outage_tools.compare import Checked, figures_of_table
-from outage_tools.counts import SETS, decimal_text, quotient
+from outage_tools.counts import SETS, Rates, decimal_text
 from outage_tools.forms import Figures, Value
+from outage_tools.interruptions import LONGEST_MOMENTARY
 from outage_tools.lists import Groups
-from outage_tools.rates import Rates, Tally, tallies_of_sets
 
 PROGRAM, TOOL, NOWHERE = "program, proved", "tool, tested", ""
 PLANNED, LOSS_OF_SUPPLY = "planned", "loss of supply"
-LIMIT = "interruptions of more than 300 seconds"
+THREE_MINUTES = 180
+LIMITS = {
+    THREE_MINUTES: "interruptions of more than 3 minutes",
+    LONGEST_MOMENTARY: "interruptions of more than 300 seconds",
+}
+INDICES = ("SAIDI", "SAIFI")  # by kinds of causes
 UNITS = {
     "SAIDI": "minutes per customer",
     "SAIFI": "interruptions per customer",
     "CAIDI": "minutes per interruption",
+    "MAIFI": "interruptions per customer",
 }
 WITHOUT_VALUE = "undefined: there is nothing to divide by"
 
@@ -31,7 +38,7 @@ COLUMNS = {
     "value": "three decimals, rounded half up, or a whole number; empty where the book can't say it",
     "numerator": "the exact value is this",
     "denominator": "divided by this",
-    "from": "program, proved: a line of the annual table, for these marked days; tool, tested: counted from the same rows",
+    "from": "program, proved: of the annual table or `outagebook indices`, for these marked days; tool, tested: the program's counts by cause, added up",
     "note": "what is to be known of the line",
 }
 
@@ -82,7 +89,7 @@ def is_calendar_year(days: tuple[date, ...]) -> bool:
 def facts(found: Checked) -> Iterator[Line]:
     """The period, the customers, the marked days."""
     book = found.book
-    days, served = book.period.days, quotient(book.served_seconds(), book.period.length)
+    days, served = book.period.days, found.whole["all"].customers
     note = "" if is_calendar_year(days) else "not a calendar year: its figures are those of these days alone"
     yield Line("period", "", f"{days[0]} to {days[-1]}", PROGRAM, note)
     marked = ", ".join(str(days[number]) for number in book.marks)
@@ -93,20 +100,8 @@ def facts(found: Checked) -> Iterator[Line]:
     )
 
 
-def rates_of(found: Checked, has: Callable[[int], bool], which: str) -> Rates:
-    """The interruptions of one of the two sets whose causes are asked for, over all customers served."""
-    sums = tallies_of_sets(found, lambda each: each.cause)[which]
-    total = Tally()
-    for cause, tally in sums.items():
-        if has(cause):
-            total.sustained += tally.sustained
-            total.sustained_seconds += tally.sustained_seconds
-    return Rates(total, found.book.served_seconds(), found.book.period.length)
-
-
-def rate_lines(rates: Rates, indices: tuple[str, ...], of: str, note: str = "") -> Iterator[Line]:
-    values = {"SAIDI": rates.saidi, "SAIFI": rates.saifi, "CAIDI": rates.caidi}
-    return (index_line(index, of, values[index], TOOL, note) for index in indices)
+def rate_lines(rates: Rates, indices: tuple[str, ...], of: str, source: str, note: str = "") -> Iterator[Line]:
+    return (index_line(index, of, rates.indices[index], source, note) for index in indices)
 
 
 def codes_of(groups: Groups | None, name: str) -> set[int]:
@@ -137,11 +132,11 @@ def eia_861(found: Checked, groups: Groups | None) -> Iterator[Line]:
             yield index_line(index, of, said_by_program(found, index, which), PROGRAM)
     of, supply = "with major event days minus loss of supply", codes_of(groups, LOSS_OF_SUPPLY)
     if supply:
-        rates = rates_of(found, lambda cause: cause not in supply, "all")
-        yield from rate_lines(rates, indices, of, f"without the causes {names_of(found, supply)}")
+        rates = rates_of_causes(found, set(found.book.causes) - supply, "all")
+        yield from rate_lines(rates, indices, of, TOOL, f"without the causes {names_of(found, supply)}")
     else:
         yield from (empty_line(index, of, missing_group(groups, LOSS_OF_SUPPLY)) for index in indices)
-    served = quotient(found.book.served_seconds(), found.book.period.length)
+    served = found.whole["all"].customers
     whole = None if served is None else (2 * served.numerator + served.denominator) // (2 * served.denominator)
     yield Line("number of customers", "customers", whole, PROGRAM, "S / P, rounded half up to a whole number")
     yield Line("highest distribution voltage", "kV", None, NOWHERE, "a book has no voltages")
@@ -153,26 +148,21 @@ def ceer(found: Checked, groups: Groups | None) -> Iterator[Line]:
     yield from facts(found)
     events = dict(zip(SETS, ("all events", "without exceptional events")))
     planned = codes_of(groups, PLANNED)
-    others = set(found.book.causes) - planned
-    kinds = {"unplanned": others, PLANNED: planned}
-    why = "the program counts by 300 seconds alone; the workbook's sheet `recount` has another limit, without a proof"
-    for kind in kinds:
-        for of in events.values():
-            for index in ("SAIDI", "SAIFI"):
-                yield empty_line(index, f"{kind}, {of}, interruptions of more than 3 minutes", why)
-    for kind, codes in kinds.items():
+    kinds = {"unplanned": set(found.book.causes) - planned, PLANNED: planned}
+    for over, limit in LIMITS.items():
+        for kind, codes in kinds.items():
+            for which, of in events.items():
+                name = f"{kind}, {of}, {limit}"
+                if planned:
+                    rates, note = rates_of_causes(found, codes, which, over), f"causes {names_of(found, codes)}"
+                    yield from rate_lines(rates, INDICES, name, TOOL, note)
+                else:
+                    yield from (empty_line(index, name, missing_group(groups, PLANNED)) for index in INDICES)
         for which, of in events.items():
-            name = f"{kind}, {of}, {LIMIT}"
-            if planned:
-                rates, note = rates_of(found, codes.__contains__, which), f"causes {names_of(found, codes)}"
-                yield from rate_lines(rates, ("SAIDI", "SAIFI"), name, note)
-            else:
-                yield from (empty_line(index, name, missing_group(groups, PLANNED)) for index in ("SAIDI", "SAIFI"))
-    for which, of in events.items():
-        for index in ("SAIDI", "SAIFI"):
-            value = said_by_program(found, index, which)
-            yield index_line(index, f"planned and unplanned, {of}, {LIMIT}", value, PROGRAM)
-    yield Line("MAIFI, interruptions of at most 3 minutes", "interruptions per customer", None, NOWHERE, why)
+            whole = found.selected("whole", over)[which]["whole"]
+            yield from rate_lines(whole, INDICES, f"planned and unplanned, {of}, {limit}", PROGRAM)
+    maifi = found.selected("whole", THREE_MINUTES)["all"]["whole"].maifi
+    yield index_line("MAIFI", "interruptions of at most 3 minutes", maifi, PROGRAM)
     yield Line("by voltage level", "", None, NOWHERE, "a book has no voltages")
     yield Line("energy not supplied", "MWh", None, NOWHERE, "a book has no power")
 

@@ -1,4 +1,4 @@
-"""Indices of IEEE Std 1366-2012 that the program doesn't print: MAIFI, MAIFI_E, CTAIDI, CELID, CEMSMI, and of load ASIFI and ASIDI.
+"""Indices of IEEE Std 1366-2012 that the annual table doesn't have: MAIFI, MAIFI_E, CTAIDI, CELID, CEMSMI, and of load ASIFI and ASIDI.
 
 They come from the program's interruptions, over the same customers served (S / P), with the same line between sustained
 and momentary interruptions. Each is an exact quotient, or undefined where there is nothing
@@ -12,16 +12,16 @@ from dataclasses import dataclass, field
 from fractions import Fraction
 
 from outage_tools.compare import Checked
-from outage_tools.counts import SETS, Counts, quotient
+from outage_tools.counts import SETS, Rates, quotient
 from outage_tools.errors import BookError
 from outage_tools.interruptions import LONGEST_MOMENTARY, Interruption
 from outage_tools.keys import Keys
 from outage_tools.lists import heads_of, read_list
-from outage_tools.rates import counted
 from outage_tools.rows import Block, Book
 from outage_tools.whole_service import whole_interruptions
 
 HOUR = 3_600
+OF_PROGRAM = ("MAIFI",)  # of these indices, those that `outagebook indices` prints
 HOURS = (Fraction(4), Fraction(8), Fraction(12), Fraction(24))  # of CELID, where none are asked for
 MOST_CEMSMI = 10
 LONGEST_EVENT = (
@@ -90,7 +90,7 @@ def further_counts(found: Checked, set_name: str, hours: Sequence[Fraction]) -> 
     for block, had in parts.items():
         events = momentary_events(had)
         counts.events += block.customers * sum(set_name == "all" or not found.book.is_marked(begin) for begin in events)
-    for block, lengths in lengths_of(counted(found, set_name)).items():
+    for block, lengths in lengths_of(found.counted(set_name)).items():
         sustained = [length for length in lengths if length > LONGEST_MOMENTARY]
         for n in range(min(MOST_CEMSMI, len(lengths))):
             counts.with_any[n] += block.customers
@@ -112,20 +112,19 @@ def read_hours(text: str) -> Fraction:
     return Fraction(text)
 
 
-def further_indices(
-    counts: Counts, further: FurtherCounts, served_seconds: int, length: int
-) -> dict[str, Fraction | None]:
-    """The indices by name. `length` is P, `served_seconds` S; CTAIDI is in minutes."""
+def further_indices(rates: Rates, further: FurtherCounts) -> dict[str, Fraction | None]:
+    """The indices by name; CTAIDI is in minutes."""
+    counts, served, length = rates.counts, rates.served, rates.length
     indices = {
-        "MAIFI": quotient(counts.momentary * length, served_seconds),
-        "MAIFI_E": quotient(further.events * length, served_seconds),
+        "MAIFI": rates.maifi,
+        "MAIFI_E": quotient(further.events * length, served),
         "CTAIDI": quotient(counts.sustained_seconds, 60 * counts.with_some[0]),
     }
     for kind, numbers in (("S", further.single), ("T", further.total)):
         for hours, customers in numbers.items():
-            indices[f"CELID-{kind}-{hours_text(hours)}"] = quotient(customers * length, served_seconds)
+            indices[f"CELID-{kind}-{hours_text(hours)}"] = quotient(customers * length, served)
     for n, customers in enumerate(further.with_any, 1):
-        indices[f"CEMSMI-{n}"] = quotient(customers * length, served_seconds)
+        indices[f"CEMSMI-{n}"] = quotient(customers * length, served)
     return indices
 
 
@@ -258,9 +257,7 @@ def computed(
     """The further indices of a compared book, of both sets."""
     indices: dict[str, dict[str, Fraction | None]] = {}
     for name in SETS:
-        further = further_counts(found, name, hours)
-        served, length = found.book.served_seconds(), found.book.period.length
-        indices[name] = further_indices(found.counts[name], further, served, length)
+        indices[name] = further_indices(found.whole[name], further_counts(found, name, hours))
         if loads is not None:
             indices[name].update(load_indices(found.book, loads, name == "unmarked"))
     return indices

@@ -6,7 +6,7 @@ from collections.abc import Iterable, Iterator
 from dataclasses import dataclass, replace
 from datetime import datetime
 from functools import lru_cache
-from itertools import groupby
+from itertools import groupby, islice
 from pathlib import Path
 
 from outage_tools.errors import Differs
@@ -78,11 +78,16 @@ def rows_file(copy: Path) -> Path:
     return copy.with_name("interruptions.csv")
 
 
-def rows_of_program(program: str, copy: Path) -> list[list[str]]:
-    """The rows that the program lists of the copy of a book, without the line of names."""
+def rows_of_program(program: str, copy: Path) -> Iterator[list[str]]:
+    """The rows that the program lists of the copy of a book, one by one, without the line of names. They are many where each
+    customer has a service of its own."""
     answer_of(program, "interruptions", "--book", copy, rows_file(copy))
-    with rows_file(copy).open(encoding="ascii", newline="") as file:
-        return [*csv.reader(file)][1:]
+    return rows_in(rows_file(copy))
+
+
+def rows_in(path: Path) -> Iterator[list[str]]:
+    with path.open(encoding="ascii", newline="") as file:
+        yield from islice(csv.reader(file), 1, None)
 
 
 def read_interruptions(rows: Iterable[list[str]], book: Book) -> list[Interruption]:

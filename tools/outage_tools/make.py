@@ -155,7 +155,7 @@ def write_exports(args: argparse.Namespace, path: Path) -> tuple[int, Keys | Non
 def import_rows(program: Program, args: argparse.Namespace, rows: Path, count: int) -> None:
     """Makes the book of the period, and imports the rows, all of which it has to take."""
     program.run("init", "--first", args.first, "--days", args.days, "--zone", args.zone.text)
-    printed = program.run("import", rows)
+    printed = program.run("import", "--whole", rows)
     if printed != f"added {count} again 0\n":
         raise BookError(f"the import of {count} rows prints {printed.strip()!r}; no book was made")
     # It holds nothing that the book's file hasn't (docs/reference/BOOK-FILE.md); the audit is of the file alone.

@@ -4,15 +4,15 @@ Outside its life a device is open. Where lives begin or end within the period th
 has the seconds from which and up to which it holds.
 """
 
-from collections import defaultdict
 from collections.abc import Callable, Hashable, Iterable, Iterator
 from dataclasses import dataclass
 from typing import Generic, TypeVar
 
+from outage_tools.graphs import Graph, graph_of, loops, networkx, reached
+
 SOURCE = "GRID"
 
 Found = TypeVar("Found", bound=Hashable)
-Beside = dict[str, list[tuple[int, str]]]  # for each node, the numbers of its devices, each with the node behind it
 
 
 @dataclass(frozen=True)
@@ -74,28 +74,6 @@ def moments_of(devices: Iterable[TestedDevice], first: int, end: int) -> list[in
     return [first, *sorted(bound for bound in bounds if first < bound < end)]
 
 
-def beside_of(devices: Iterable[tuple[int, TestedDevice]]) -> Beside:
-    """The devices at each node."""
-    beside: Beside = defaultdict(list)
-    for number, device in devices:
-        a, b = device.ends
-        beside[a].append((number, b))
-        beside[b].append((number, a))
-    return beside
-
-
-def walk(beside: Beside, start: str) -> set[str]:
-    """The nodes to which a walk leads."""
-    reached = {start}
-    waiting = [start]
-    while waiting:
-        for _, node in beside.get(waiting.pop(), ()):
-            if node not in reached:
-                reached.add(node)
-                waiting.append(node)
-    return reached
-
-
 @dataclass(frozen=True)
 class TestedNetwork:
     """Nodes and devices; both ends of each device are nodes."""
@@ -103,70 +81,34 @@ class TestedNetwork:
     nodes: frozenset[str]
     devices: tuple[TestedDevice, ...]
 
-    def alive(self, second: int) -> list[tuple[int, TestedDevice]]:
-        return [(number, device) for number, device in enumerate(self.devices) if device.is_alive(second)]
+    def alive(self, second: int) -> list[TestedDevice]:
+        return [device for device in self.devices if device.is_alive(second)]
+
+    def graph(self, devices: Iterable[TestedDevice]) -> Graph:
+        return graph_of(
+            [SOURCE, *sorted(self.nodes)], ((*device.ends, number) for number, device in enumerate(devices))
+        )
 
     def islands(self, second: int) -> Iterator[Island]:
-        """The islands at a second."""
+        """The islands at a second, by their nodes."""
         alive = self.alive(second)
-        closed = beside_of((number, device) for number, device in alive if device.is_closed)
-        by_ties = walk(beside_of(alive), SOURCE)
-        left = self.nodes - walk(closed, SOURCE)
-        while left:
-            nodes = frozenset(walk(closed, min(left)))
-            left -= nodes
+        by_ties = reached(self.graph(alive), SOURCE)
+        for part in networkx().connected_components(self.graph(device for device in alive if device.is_closed)):
+            if SOURCE in part:
+                continue
+            nodes = frozenset(part)
             ties = (
                 device.name
-                for _, device in alive
+                for device in alive
                 if not device.is_closed and (device.ends[0] in nodes) != (device.ends[1] in nodes)
             )
             yield Island(nodes, frozenset(ties), not nodes.isdisjoint(by_ties))
 
     def loops(self, second: int) -> Iterator[Loop]:
         """The loops at a second."""
-        beside = beside_of((number, device) for number, device in self.alive(second) if device.is_closed)
-        for numbers in parts_without_bridges(beside):
-            yield Loop(frozenset(self.devices[number].name for number in numbers))
-
-
-def parts_without_bridges(beside: Beside) -> Iterator[set[int]]:
-    """The devices of each part of a network in which any two lie on a common loop (a biconnected component of two or more).
-
-    By depth: each node has the number of its first visit, and the least such number to which a way back leads. Where a node
-    behind another one leads back no further than to it, what was walked behind it is a part.
-    """
-    visits: dict[str, int] = {}
-    for start in beside:
-        if start not in visits:
-            yield from parts_from(beside, start, visits)
-
-
-def parts_from(beside: Beside, start: str, visits: dict[str, int]) -> Iterator[set[int]]:
-    """The parts of what hangs together with a node."""
-    back = {start: len(visits)}
-    visits[start] = len(visits)
-    walked: list[int] = []
-    way = [(start, -1, iter(beside[start]))]
-    while way:
-        node, came_by, others = way[-1]
-        step = next(others, None)
-        if step is not None:
-            number, other = step
-            if other not in visits:
-                visits[other] = back[other] = len(visits)
-                walked.append(number)
-                way.append((other, number, iter(beside[other])))
-            elif number != came_by and visits[other] < visits[node]:
-                walked.append(number)
-                back[node] = min(back[node], visits[other])
-            continue
-        way.pop()
-        if way:
-            before = way[-1][0]
-            back[before] = min(back[before], back[node])
-            if back[node] >= visits[before]:
-                part = {came_by}
-                while (number := walked.pop()) != came_by:
-                    part.add(number)
-                if len(part) > 1:
-                    yield part
+        closed = (
+            (device.ends[0], device.ends[1], number)
+            for number, device in enumerate(self.devices)
+            if device.is_closed and device.is_alive(second)
+        )
+        return (Loop(frozenset(self.devices[number].name for number in numbers)) for numbers in loops(closed))

@@ -4,11 +4,11 @@ from collections.abc import Callable, Iterable
 from fractions import Fraction
 
 from outage_tools.compare import Checked
-from outage_tools.counts import SETS
+from outage_tools.counts import SETS, Rates
 from outage_tools.errors import BookError
 from outage_tools.feeders import feeder_rows
 from outage_tools.forms import Figures, Value
-from outage_tools.rates import GroupRow, Rates, both, quotient_columns
+from outage_tools.rates import GroupRow, both, quotient_columns
 
 RANKING_COLUMNS = {
     "rank": "by SAIDI, the worst first; equal ones have one rank; empty: no customer was served",

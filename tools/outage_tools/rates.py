@@ -1,91 +1,34 @@
-"""Interruptions added up by a key, and SAIFI, SAIDI and CAIDI over the customers who were served."""
+"""SAIFI, SAIDI and CAIDI of a key as the program says them, and the program's interruptions added up by a key."""
 
-from collections import defaultdict
-from collections.abc import Callable, Hashable, Iterable, Iterator
+from collections import Counter, defaultdict
+from collections.abc import Callable, Hashable, Iterable
 from dataclasses import dataclass
 from fractions import Fraction
 from typing import TypeVar
 
 from outage_tools.compare import Checked
-from outage_tools.counts import SETS, decimal_text, fraction_text, quotient
+from outage_tools.counts import SETS, Counts, Rates, decimal_text, fraction_text
 from outage_tools.forms import Value
 from outage_tools.interruptions import Interruption
-from outage_tools.rows import Block, Book
 
 Key = TypeVar("Key", bound=Hashable)
 
 
-@dataclass
-class Tally:
-    """Of some interruptions: CI, CSI in seconds, MI, and the customer-seconds without supply, momentary ones too."""
-
-    sustained: int = 0
-    sustained_seconds: int = 0
-    momentary: int = 0
-    customer_seconds: int = 0
-
-    def add(self, each: Interruption) -> None:
-        self.customer_seconds += each.customer_seconds
-        if each.is_sustained:
-            self.sustained += each.customers
-            self.sustained_seconds += each.customer_seconds
-        else:
-            self.momentary += each.customers
-
-
-@dataclass(frozen=True)
-class Rates:
-    """A tally over the customers who were served: `served` customer-seconds in service in `length` seconds."""
-
-    tally: Tally
-    served: int
-    length: int
-
-    @property
-    def customers(self) -> Fraction | None:
-        """Customers served on average."""
-        return quotient(self.served, self.length)
-
-    @property
-    def saifi(self) -> Fraction | None:
-        """Interruptions per customer served."""
-        return quotient(self.tally.sustained * self.length, self.served)
-
-    @property
-    def saidi(self) -> Fraction | None:
-        """Minutes per customer served."""
-        return quotient(self.tally.sustained_seconds * self.length, 60 * self.served)
-
-    @property
-    def caidi(self) -> Fraction | None:
-        """Minutes per interruption."""
-        return quotient(self.tally.sustained_seconds, 60 * self.tally.sustained)
-
-
-def tallies(interruptions: Iterable[Interruption], key_of: Callable[[Interruption], Key]) -> dict[Key, Tally]:
-    """The interruptions added up by a key."""
-    found: dict[Key, Tally] = defaultdict(Tally)
+def counts_by(interruptions: Iterable[Interruption], key_of: Callable[[Interruption], Key]) -> dict[Key, Counts]:
+    """CI, CSI and MI by a key."""
+    found: dict[Key, Counts] = defaultdict(Counts)
     for each in interruptions:
         found[key_of(each)].add(each)
     return found
 
 
-def counted(found: Checked, name: str) -> Iterator[Interruption]:
-    """The interruptions of one of the two sets."""
-    return (each for each in found.interruptions if name == "all" or not found.book.is_marked(each.since))
-
-
-def tallies_of_sets(found: Checked, key_of: Callable[[Interruption], Key]) -> dict[str, dict[Key, Tally]]:
-    """The interruptions of each set added up by a key."""
-    return {name: tallies(counted(found, name), key_of) for name in SETS}
-
-
-def served_by(book: Book, key_of: Callable[[Block], Key]) -> dict[Key, int]:
-    """The customer-seconds in service in the period, by a key of the section."""
-    served: dict[Key, int] = defaultdict(int)
-    for block in book.blocks:
-        served[key_of(block)] += block.seconds(book.period.first, book.period.end)
-    return served
+def seconds_of_sets(found: Checked, key_of: Callable[[Interruption], Key]) -> dict[str, Counter[Key]]:
+    """The customer-seconds without supply of each set, momentary ones too, by a key."""
+    seconds = {name: Counter[Key]() for name in SETS}
+    for name in SETS:
+        for each in found.counted(name):
+            seconds[name][key_of(each)] += each.customer_seconds
+    return seconds
 
 
 def both(value: Fraction | None) -> list[Value]:
@@ -113,8 +56,8 @@ RATES_COLUMNS = {
 
 def rates_values(rates: Rates) -> list[Value]:
     """The values of RATES_COLUMNS."""
-    tally = rates.tally
-    values: list[Value] = [tally.sustained, tally.momentary, tally.sustained_seconds]
+    counts = rates.counts
+    values: list[Value] = [counts.sustained, counts.momentary, counts.sustained_seconds]
     for value in (rates.saifi, rates.saidi, rates.caidi):
         values += both(value)
     return values
@@ -122,13 +65,18 @@ def rates_values(rates: Rates) -> list[Value]:
 
 @dataclass(frozen=True)
 class GroupRow:
-    """A month, a feeder or a section in one of the two sets; `seconds` are the customer-seconds of the set's interruptions:
-    of all, the book's own, as posted."""
+    """A month, a feeder or a section in one of the two sets; `seconds` are the customer-seconds of the set's interruptions."""
 
     name: int | str
     set: str
     seconds: int
     rates: Rates
+
+
+def group_rows(found: Checked, by: str, key_of: Callable[[Interruption], str]) -> list[GroupRow]:
+    """Each feeder or section, in both sets."""
+    selected, seconds = found.selected(by), seconds_of_sets(found, key_of)
+    return [GroupRow(key, name, seconds[name][key], selected[name][key]) for key in selected["all"] for name in SETS]
 
 
 GROUP_COLUMNS = {

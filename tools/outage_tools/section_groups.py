@@ -1,28 +1,16 @@
 """The indices of groups of line sections that a user has (towns, substations, urban and rural), beside the book's own."""
 
-from collections import defaultdict
-from collections.abc import Iterable
+from collections.abc import Sequence
 from dataclasses import dataclass
-from fractions import Fraction
 from typing import Literal
 
 from outage_tools.compare import Checked
-from outage_tools.counts import (
-    SETS,
-    Counts,
-    counts_of,
-    decimal_text,
-    fraction_text,
-    index_decimals,
-    indices_of,
-    quotient,
-)
+from outage_tools.counts import SETS, Counts, Rates, decimal_text, fraction_text, index_decimals
 from outage_tools.errors import Differs
+from outage_tools.feeders import section_rows
 from outage_tools.forms import Figures, Value
-from outage_tools.interruptions import Interruption
 from outage_tools.lists import Groups, groups_in_order, told_missing
-from outage_tools.rates import both, counted, quotient_columns, served_by
-from outage_tools.rows import CAUSE
+from outage_tools.rates import GroupRow, both, quotient_columns
 
 INDICES = ("SAIFI", "SAIDI", "CAIDI", "CAIFI", "ASAI", *(f"CEMI-{n}" for n in range(1, 11)))
 
@@ -35,75 +23,36 @@ class Counted:
     name: str
     set: str
     sections: int
-    served: int
     customer_seconds: int
-    counts: Counts
-    length: int
+    rates: Rates
 
     @property
-    def indices(self) -> dict[str, Fraction | None]:
-        return indices_of(self.counts, self.served, self.length)
-
-    @property
-    def figures(self) -> tuple[int, int, int, Counts]:
+    def figures(self) -> tuple[int, int, Rates]:
         """What a sum has equal to the book's own where no section is left out."""
-        return self.sections, self.served, self.customer_seconds, self.counts
+        return self.sections, self.customer_seconds, self.rates
 
 
-class Parts:
-    """What a group is counted from, section by section."""
-
-    def __init__(self, found: Checked):
-        self.length = found.book.period.length
-        self.served = served_by(found.book, lambda block: block.section)
-        self.interruptions: dict[tuple[str, int], list[Interruption]] = defaultdict(list)
-        for which in SETS:
-            for each in counted(found, which):
-                self.interruptions[which, each.section].append(each)
-
-    def counted(self, name: str, which: str, nodes: list[int]) -> Counted:
-        """A group, counted over the customers of its sections alone."""
-        interruptions = [each for node in nodes for each in self.interruptions.get((which, node), ())]
-        served = sum(self.served.get(node, 0) for node in nodes)
-        seconds = sum(each.customer_seconds for each in interruptions)
-        return Counted("group", name, which, len(nodes), served, seconds, counts_of(interruptions), self.length)
-
-
-def sum_of(groups: Iterable[Counted], which: str, length: int) -> Counted:
-    """The groups together: their sections are distinct, so each customer is in one of them."""
-    total = Counts()
-    sections = served = seconds = 0
-    for group in groups:
-        sections, served = sections + group.sections, served + group.served
-        seconds += group.customer_seconds
-        total.sustained += group.counts.sustained
-        total.sustained_seconds += group.counts.sustained_seconds
-        total.momentary += group.counts.momentary
-        total.with_some = [here + more for here, more in zip(total.with_some, group.counts.with_some)]
-    return Counted("sum", "", which, sections, served, seconds, total, length)
-
-
-def counted_book(found: Checked, which: str) -> Counted:
-    """The whole book: its counts are those of the program's annual table."""
-    book = found.book
-    total = sum(amount for (dim, _), amount in book.postings.items() if dim == CAUSE)
-    seconds = total if which == "all" else sum(each.customer_seconds for each in counted(found, which))
-    counts = found.counts[which]
-    return Counted("book", "", which, len(book.sections), book.served_seconds(), seconds, counts, book.period.length)
+def together(found: Checked, row: Literal["group", "sum"], name: str, which: str, parts: Sequence[GroupRow]) -> Counted:
+    """Sections together: a customer has one of them, so their counts add up."""
+    served = sum(each.rates.served for each in parts)
+    rates = Rates(sum((each.rates.counts for each in parts), Counts()), served, found.book.period.length)
+    return Counted(row, name, which, len(parts), sum(each.seconds for each in parts), rates)
 
 
 def counted_groups(found: Checked, groups: Groups) -> list[Counted]:
     """Each group in both sets, the sum of all, and the book's own, which are equal where every section is in a group."""
-    rows, parts = list[Counted](), Parts(found)
+    group_of: dict[int | str, str] = {found.book.sections[node].name: group for node, group in groups.items()}
+    of_sets = {name: [row for row in section_rows(found) if row.set == name] for name in SETS}
+    rows = []
     for name in groups_in_order(groups):
-        nodes = [node for node, group in groups.items() if group == name]
-        rows += [parts.counted(name, which, nodes) for which in SETS]
-    for which in SETS:
-        total = sum_of(
-            (row for row in rows if row.row == "group" and row.set == which), which, found.book.period.length
-        )
-        own = counted_book(found, which)
-        if len(groups) == len(found.book.sections) and total.figures != own.figures:
+        for which, of_set in of_sets.items():
+            parts = [each for each in of_set if group_of.get(each.name) == name]
+            rows.append(together(found, "group", name, which, parts))
+    for which, of_set in of_sets.items():
+        total = together(found, "sum", "", which, [each for each in of_set if each.name in group_of])
+        seconds = sum(each.seconds for each in of_set)
+        own = Counted("book", "", which, len(of_set), seconds, found.whole[which])
+        if len(group_of) == len(of_set) and total.figures != own.figures:
             raise Differs(f"the sum of the groups, {which}", total.figures, own.figures)
         rows += [total, own]
     return rows
@@ -154,11 +103,10 @@ def groups(found: Checked, of_sections: Groups) -> Figures:
 
 def counted_values(row: Counted) -> list[Value]:
     """The values of COUNTED_COLUMNS."""
-    counts = row.counts
-    values: list[Value] = [row.row, row.name, row.set, row.sections, row.served]
-    values += both(quotient(row.served, row.length))
+    rates, counts = row.rates, row.rates.counts
+    values: list[Value] = [row.row, row.name, row.set, row.sections, rates.served, *both(rates.customers)]
     values += [row.customer_seconds, counts.sustained, counts.sustained_seconds, counts.momentary, counts.with_some[0]]
     for index in INDICES:
-        value = row.indices[index]
+        value = rates.indices[index]
         values += [fraction_text(value), decimal_text(value, index_decimals(index))]
     return values

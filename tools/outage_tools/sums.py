@@ -25,7 +25,7 @@ from pathlib import Path
 
 from outage_tools.cli import Parser, add_page_arguments, run_job
 from outage_tools.compare import Checked, open_book
-from outage_tools.counts import SETS, Counts, decimal_text, fraction_text, indices_of, quotient, quotient_text
+from outage_tools.counts import SETS, Counts, Rates, decimal_text, fraction_text, quotient, quotient_text
 from outage_tools.errors import BookError
 from outage_tools.indices import HOURS, FurtherCounts, further_counts, further_indices, read_hours
 from outage_tools.parallel import add_spread_arguments, over_books
@@ -107,13 +107,17 @@ class Sums:
     def total(self) -> int:
         return sum(self.days)
 
+    def rates(self, name: str) -> Rates:
+        """The counts of one of the two sets, over the customers served."""
+        return Rates(self.counts[name], self.served_seconds, self.length)
+
     def indices(self, name: str) -> dict[str, Fraction | None]:
         """The fifteen quotients of one of the two sets."""
-        return indices_of(self.counts[name], self.served_seconds, self.length)
+        return self.rates(name).indices
 
     def further_indices(self, name: str) -> dict[str, Fraction | None]:
-        """MAIFI, CTAIDI, CELID and CEMSMI of one of the two sets."""
-        return further_indices(self.counts[name], self.further[name], self.served_seconds, self.length)
+        """MAIFI, MAIFI_E, CTAIDI, CELID and CEMSMI of one of the two sets."""
+        return further_indices(self.rates(name), self.further[name])
 
     def daily_saidi(self) -> list[Fraction | None]:
         """Of each day the standard's: minutes of the sustained interruptions that begin on it, per customer served."""
@@ -141,7 +145,7 @@ def district_of(path: str, found: Checked, hours: Sequence[Fraction] = HOURS) ->
         period=PeriodKey(book.period.days[0], len(book.period.days), book.period.zone.text),
         length=book.period.length,
         commands=commands,
-        served_seconds=book.served_seconds(),
+        served_seconds=found.whole["all"].served,
         causes={code: (name, book.postings[CAUSE, code]) for code, name in book.causes.items()},
         feeders={
             feeder: book.postings[FEEDER, feeder]
@@ -203,16 +207,6 @@ def refuse_shared_customers(districts: Sequence[District]) -> None:
             )
 
 
-def add_counts(counts: Sequence[Counts]) -> Counts:
-    """Counts of customers who are all distinct."""
-    return Counts(
-        sustained=sum(each.sustained for each in counts),
-        sustained_seconds=sum(each.sustained_seconds for each in counts),
-        momentary=sum(each.momentary for each in counts),
-        with_some=[sum(some) for some in zip(*(each.with_some for each in counts))],
-    )
-
-
 def add_causes(districts: Sequence[District]) -> tuple[CauseSum, ...]:
     """Causes by their names, in the order of their codes; those with several codes at the end."""
     found: dict[str, CauseSum] = {}
@@ -242,7 +236,7 @@ def add_up(districts: Sequence[District], own_numbers: bool = False) -> Sums:
         days=tuple(map(sum, zip(*(each.days for each in districts)))),
         begun=tuple(map(sum, zip(*(each.begun for each in districts)))),
         marked_in={day: tuple(names) for day, names in sorted(marked.items())},
-        counts={name: add_counts([each.counts[name] for each in districts]) for name in SETS},
+        counts={name: reduce(add, (each.counts[name] for each in districts)) for name in SETS},
         further={name: reduce(add, (each.further[name] for each in districts)) for name in SETS},
     )
 
@@ -335,7 +329,9 @@ def write_table(sums: Sums) -> None:
 
 
 def write_further(sums: Sums) -> None:
-    print("# Computed here, in no program's table: MAIFI, CTAIDI, CELID and CEMSMI, over the same customers served.")
+    print(
+        "# Computed here, in no program's table: MAIFI, MAIFI_E, CTAIDI, CELID and CEMSMI, over the same customers served."
+    )
     for line in further_lines(sums):
         print(line)
 
@@ -418,7 +414,11 @@ def main() -> int:
         "--districts", dest="write", action="store_const", const=write_districts, help="a CSV row for each district"
     )
     form.add_argument(
-        "--further", dest="write", action="store_const", const=write_further, help="MAIFI, CTAIDI, CELID and CEMSMI"
+        "--further",
+        dest="write",
+        action="store_const",
+        const=write_further,
+        help="MAIFI, MAIFI_E, CTAIDI, CELID and CEMSMI",
     )
     form.add_argument("-o", "--output", metavar="FILE", help="write a page of all books in place of the table")
     parser.add_argument("--hours", nargs="+", type=read_hours, metavar="H", default=HOURS, help="those of CELID")

@@ -1,13 +1,15 @@
-"""Who is supplied as devices are switched, by plain walks: for books that the program doesn't have, and to tell which
+"""Who is supplied as devices are switched, by walks of networkx: for books that the program doesn't have, and to tell which
 entry brought supply back. No figure of a book comes from here.
 """
 
-from collections import defaultdict
+from collections import Counter, defaultdict
 from collections.abc import Iterable
 from dataclasses import dataclass
 
+from outage_tools.counts import Counts
+from outage_tools.graphs import graph_of, is_joined, reached
 from outage_tools.interruptions import Interruption, blocks_by_section, order
-from outage_tools.rows import GRID, Book, Device, Entry
+from outage_tools.rows import GRID, Block, Book, Device, Entry
 
 
 @dataclass(frozen=True)
@@ -23,13 +25,15 @@ class Run:
 
 
 class Supply:
-    """The positions of all devices as switchings and lives come and go, and who is supplied under them."""
+    """The positions of all devices as switchings and lives come and go, and which nodes are supplied under them: those to which
+    a walk of closed devices leads from GRID."""
 
     def __init__(self, book: Book):
         self.devices = book.devices
         self.switched = [device.is_closed for device in book.devices]
         self.is_closed = [False] * len(book.devices)
-        self.beside: dict[int, list[int]] = {node: [] for node in book.nodes}  # over closed devices, each once
+        self.closed = graph_of(book.nodes, [])  # the closed devices, by their numbers
+        self.supplied = frozenset([GRID])
         self.come_to(book.period.first)
 
     def set_position(self, device: Device, is_closed: bool) -> bool:
@@ -37,12 +41,25 @@ class Supply:
         if is_closed == self.is_closed[device.number]:
             return False
         self.is_closed[device.number] = is_closed
-        for node, other in ((device.a, device.b), (device.b, device.a)):
-            if is_closed:
-                self.beside[node].append(other)
-            else:
-                self.beside[node].remove(other)
+        if is_closed:
+            self.join(device)
+        else:
+            self.part(device)
         return True
+
+    def join(self, device: Device) -> None:
+        """Where one end is supplied, so is all that hangs together with the other one from now on."""
+        for end, other in ((device.a, device.b), (device.b, device.a)):
+            if end in self.supplied and other not in self.supplied:
+                self.supplied |= reached(self.closed, other)
+        self.closed.add_edge(device.a, device.b, device.number)
+
+    def part(self, device: Device) -> None:
+        """An end to which no other way leads from GRID loses supply, with all that hangs together with it."""
+        self.closed.remove_edge(device.a, device.b, device.number)
+        for end in (device.a, device.b):
+            if end in self.supplied and not is_joined(self.closed, GRID, end):
+                self.supplied -= reached(self.closed, end)
 
     def come_to(self, second: int) -> bool:
         """Takes the lives as of a second: whether this changed a position."""
@@ -57,15 +74,6 @@ class Supply:
         device = self.devices[entry.device]
         self.switched[entry.device] = entry.closes
         return self.set_position(device, entry.closes and device.is_alive(second))
-
-    def supplied(self) -> set[int]:
-        """The nodes to which a walk of closed devices leads from GRID."""
-        reached: set[int] = set()
-        found = {GRID}
-        while found:
-            reached |= found
-            found = set().union(*[self.beside[node] for node in found]) - reached
-        return reached
 
 
 def bounds_of_lives(devices: Iterable[Device]) -> set[int]:
@@ -90,20 +98,19 @@ def sweep(book: Book) -> list[Run]:
     sections = set(book.sections)
     going: dict[int, tuple[int, Entry | None]] = {}
     runs: list[Run] = []
-    supplied = supply.supplied()
     for moment in sorted(moment for moment in moments if book.period.first <= moment < book.period.end):
-        if moment in lives and supply.come_to(moment):
-            supplied = supply.supplied()
+        if moment in lives:
+            supply.come_to(moment)
         cutters, enders = dict[int, Entry](), dict[int, Entry]()
         for entry in entries_at.get(moment, ()):
+            before = supply.supplied
             if supply.switch(entry, moment):
-                before, supplied = supplied, supply.supplied()
-                cutters.update((node, entry) for node in before - supplied)
-                enders.update((node, entry) for node in supplied - before)
-        for section in sections & supplied & going.keys():
+                cutters.update((node, entry) for node in before - supply.supplied)
+                enders.update((node, entry) for node in supply.supplied - before)
+        for section in sections & supply.supplied & going.keys():
             since, cutter = going.pop(section)
             runs.append(Run(section, since, moment, cutter, enders.get(section)))
-        for section in sections - supplied - going.keys():
+        for section in sections - supply.supplied - going.keys():
             going[section] = moment, cutters.get(section)
     runs += [Run(section, since, book.period.end, cutter) for section, (since, cutter) in going.items()]
     return sorted(runs, key=lambda run: (run.since, run.section))
@@ -119,3 +126,15 @@ def interruptions_of(book: Book, runs: Iterable[Run]) -> list[Interruption]:
             if since < until:
                 found.append(Interruption(block, since, until, run.cutter.cause if run.cutter else 0, run.cutter))
     return sorted(found, key=order)
+
+
+def counts_of(interruptions: Iterable[Interruption]) -> Counts:
+    """The counts over the interruptions that this walk has found."""
+    counts, numbers = Counts(), Counter[Block]()
+    for each in interruptions:
+        counts.add(each)
+        numbers[each.block] += each.is_sustained
+    for block, number in numbers.items():
+        for n in range(min(10, number)):
+            counts.with_some[n] += block.customers
+    return counts

@@ -29,7 +29,6 @@ from outage_tools.days import unmarked_seconds
 from outage_tools.errors import BookError, Differs
 from outage_tools.interruptions import joined
 from outage_tools.parallel import add_spread_arguments, over_books
-from outage_tools.rates import counted
 from outage_tools.rows import CAUSE, DAY, FEEDER, Book
 from outage_tools.sums import PeriodKey, name_of, tables_given
 
@@ -147,7 +146,7 @@ def month_bounds(book: Book) -> dict[str, tuple[int, int]]:
 
 def counts_rows(found: Checked) -> Rows:
     for name in SETS:
-        counts, seconds = found.counts[name], sum(each.customer_seconds for each in counted(found, name))
+        counts, seconds = found.counts[name], sum(each.customer_seconds for each in found.counted(name))
         yield name, counts.sustained, counts.sustained_seconds, counts.momentary, seconds, list(counts.with_some)
 
 
@@ -281,7 +280,7 @@ def write_book(connection: Connection, period_id: int, key: BookKey, found: Chec
     connection.execute(
         "INSERT INTO outagebook.book (period_id, district, commands, digest, served_seconds, customer_seconds)"
         " VALUES (%s, %s, %s, %s, %s, %s)",
-        (period_id, key.district, key.commands, key.digest, found.book.served_seconds(), total),
+        (period_id, key.district, key.commands, key.digest, found.whole["all"].served, total),
     )
     with connection.cursor() as cursor:
         for table, rows in rows_of(found):
@@ -385,10 +384,10 @@ def compare_views(connection: Connection, key: BookKey, found: Checked) -> None:
     table = {which: text for which, text in figures_of_table(found.table).items() if which.split()[-1] in SETS}
     total = sum(found.book.postings[CAUSE, code] for code in found.book.causes)
     counts = found.counts["all"]
-    unmarked = sum(each.customer_seconds for each in counted(found, "unmarked"))
+    unmarked = sum(each.customer_seconds for each in found.counted("unmarked"))
     wanted = {f"W of {part}": str(total) for part in ("interruptions", "causes", "feeders", "days", "all")}
     wanted |= {f"W of {part}": str(unmarked) for part in ("unmarked", "unmarked interruptions", "unmarked days")}
-    wanted |= {f"S of {part}": str(found.book.served_seconds()) for part in ("days", "feeders", "sections")}
+    wanted |= {f"S of {part}": str(found.whole["all"].served) for part in ("days", "feeders", "sections")}
     wanted |= {
         "CI of interruptions": str(counts.sustained),
         "CSI of interruptions": str(counts.sustained_seconds),

@@ -13,7 +13,7 @@ import sys
 
 from outage_tools.cli import Parser, run_job
 from outage_tools.compare import Checked, open_book
-from outage_tools.counts import SETS, decimal_text, index_text, indices_of, quotient
+from outage_tools.counts import SETS, decimal_text, index_text
 from outage_tools.parallel import add_spread_arguments, over_books
 from outage_tools.rows import CAUSE, FEEDER
 
@@ -21,19 +21,18 @@ from outage_tools.rows import CAUSE, FEEDER
 def lines_of(found: Checked) -> dict[str, str]:
     """A book's figures by their names."""
     book, period = found.book, found.book.period
-    served = book.served_seconds()
     lines = {
         "first day": period.days[0].isoformat(),
         "days": str(len(period.days)),
         "zone": period.zone.text,
         "P, seconds": str(period.length),
-        "S, customer-seconds": str(served),
+        "S, customer-seconds": str(found.whole["all"].served),
         "W, customer-seconds": str(sum(amount for (dim, _), amount in book.postings.items() if dim == CAUSE)),
-        "customers served, S / P": decimal_text(quotient(served, period.length)),
+        "customers served, S / P": decimal_text(found.whole["all"].customers),
         "marked days": str(len(book.marks)),
     }
     for name in SETS:
-        for index, value in indices_of(found.counts[name], served, period.length).items():
+        for index, value in found.whole[name].indices.items():
             lines[f"{index} {name}"] = index_text(index, value)
         lines[f"SUSTAINED {name}"] = str(found.counts[name].sustained)
         lines[f"MOMENTARY {name}"] = str(found.counts[name].momentary)

@@ -1,5 +1,5 @@
-"""Stands in for the program where a test is of what is around it: `init`, `import`, `table`, `interruptions` and `audit`, by the
-oracle's model.
+"""Stands in for the program where a test is of what is around it: `init`, `import`, `table`, `indices`, `interruptions` and
+`audit`, by the oracle's model.
 
     python3 tools/tests/made_program.py import --book BOOK TEXT
 
@@ -16,6 +16,7 @@ sys.path[0] = str(Path(__file__).resolve().parents[2] / "oracle")
 
 from from_file import book_of  # noqa: E402
 from interruptions import interruption_lines  # noqa: E402
+from selections import index_lines  # noqa: E402
 
 MADE_BOOKS = Path(__file__).with_name("made_books.py")
 HEADER = "kind,ref,f1,f2,f3,f4,f5,f6\n"
@@ -51,11 +52,14 @@ def main() -> None:
         make(book, HEADER)
         print("created")
     elif job == "import":
-        make(book, Path(words[0]).read_text())
+        make(book, Path(words[-1]).read_text())
         with closing(sqlite3.connect(book)) as database:
             print(f"added {database.execute('SELECT count(*) FROM cmd').fetchone()[0]} again 0")
     elif job == "table":
         print("\n".join(book_of(book).table_lines()))
+    elif job == "indices":
+        said = dict(zip(words[::2], words[1::2]))
+        print("\n".join(index_lines(book_of(book), said.get("--by", "whole"), int(said.get("--over", 300)))))
     elif job == "interruptions":
         rows = [*interruption_lines(book_of(book))]
         Path(words[0]).write_text("".join(f"{row}\n" for row in rows))

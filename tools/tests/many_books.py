@@ -82,11 +82,12 @@ def books_of(name: str, texts: dict[str, Sequence[str]], period: tuple[str, int,
 
 @lru_cache(maxsize=None)
 def opened(book: Path) -> Checked:
-    """A made book, compared with the model's table; its database is in memory, so that hundreds take no open file."""
+    """A made book, compared with the model's table; its database is in memory, so that hundreds take no open file. What the program
+    is asked for later it says of the made file itself."""
     with open_book(str(book), str(table_of(book))) as found:
         database = sqlite3.connect(":memory:")
         found.database.backup(database)
-    return replace(found, database=database)
+    return replace(found, database=database, file=book)
 
 
 def run(tool: str, *words: object, **environment: str) -> "subprocess.CompletedProcess[str]":

@@ -175,6 +175,39 @@ class Cutting(unittest.TestCase):
         self.assertEqual(done.returncode, 1)
         self.assertIn("lies in several districts of the earlier cut", done.stderr)
 
+    def test_the_counts_of_a_ticket_stand_where_its_customers_are(self) -> None:
+        """A tie's rows are in two districts; the counts of its ticket stay in that of the ticket's other devices."""
+        folder = many_books.folder() / "counts"
+        folder.mkdir()
+        rows = ["type,name,feeder,from,to,normal", "section,A,1,,,", "section,B,2,,,", "section,C,2,,,"]
+        rows += ["device,CB-A,,GRID,A,closed", "device,CB-B,,GRID,B,closed", "device,SW,,B,C,closed"]
+        (folder / "gis.csv").write_text("\n".join([*rows, "device,TIE,,A,C,open"]))
+        (folder / "earlier.csv").write_text("node,district\nA,east\nB,west\n")
+        oms = ["ticket,step,device,out,restored,customers,customer_minutes"]
+        oms += ["1,1,CB-B,10:00,12:00,9,90", "1,2,SW,10:30,12:10,9,90", "1,3,TIE,12:20,10:40,9,90"]
+        oms += [
+            "2,1,TIE,10:00,11:00,1,2",
+            "3,1,CB-A,9:00,9:10,4,40",
+            "3,2,CB-B,9:00,9:10,4,40",
+            "3,3,TIE,9:09,9:02,4,40",
+        ]
+        (folder / "oms.csv").write_text("\n".join(oms))
+        done = run(
+            "districts",
+            "cut",
+            folder / "gis.csv",
+            "--oms",
+            folder / "oms.csv",
+            "--as",
+            folder / "earlier.csv",
+            "-o",
+            folder / "cut",
+        )
+        self.assertEqual((done.returncode, done.stderr), (0, ""))
+        told = {name: (folder / "cut" / name / "oms.csv").read_text().splitlines()[1:] for name in ("east", "west")}
+        self.assertEqual(told["west"], [*oms[1:5], *oms[6:8]])
+        self.assertEqual(told["east"], ["1,3,TIE,12:20,10:40,,", oms[4], oms[5], oms[7]])
+
     def test_an_area_that_no_book_holds_is_refused_with_its_numbers(self) -> None:
         folder = many_books.folder() / "large"
         folder.mkdir()
@@ -286,15 +319,7 @@ class Checking(unittest.TestCase):
         total = sums.total + sum(cost.customer_seconds for cost in checked.costs)
         self.assertEqual(whole["P, S and W"], f"{sums.length} {sums.served_seconds} {total}")
         for name in SETS:
-            counts = sums.counts[name]
-            for cost in checked.costs:
-                more = cost.counts[name]
-                counts = type(counts)(
-                    counts.sustained + more.sustained,
-                    counts.sustained_seconds + more.sustained_seconds,
-                    counts.momentary + more.momentary,
-                    [here + there for here, there in zip(counts.with_some, more.with_some)],
-                )
+            counts = sum((cost.counts[name] for cost in checked.costs), sums.counts[name])
             for index, value in indices_of(counts, sums.served_seconds, sums.length).items():
                 self.assertEqual(whole[f"{index} {name}"].split()[0], fraction_text(value), index)
             self.assertEqual(whole[f"SUSTAINED {name}"], str(counts.sustained))

@@ -12,9 +12,10 @@ from functools import lru_cache
 from importlib import import_module
 from pathlib import Path
 
+from outage_tools.program import answer_of
 from tests import support
 
-FILES = ["rows.py", "interruptions.py", "counts.py", "compare.py"]
+FILES = ["rows.py", "interruptions.py", "counts.py", "selections.py", "compare.py"]
 FAULTS = {
     "a sustained interruption of 300 seconds": (
         "self.seconds > LONGEST_MOMENTARY",
@@ -32,8 +33,10 @@ FAULTS = {
     "a cause that isn't told": ("about[place] = causes[cause]", "about[place] = 0"),
     "a section taken for another": ("place = nodes[section]", "place = max(nodes.values())"),
     "a mark that is looked for a day late": ("self.period.day_of(second) in", "self.period.day_of(second) + 1 in"),
-    "a mark that is never looked for": ("if not book.is_marked(each.since)]", "if True]"),
-    "a tenth interruption that isn't counted": ("range(min(10, number))", "range(min(9, number))"),
+    "a mark that is never looked for": ("return self.period.day_of(second) in self.marks", "return False"),
+    "customers with ten interruptions that aren't read": ("for n in range(1, 11)]", "for n in range(1, 10)]"),
+    "customers of another number of interruptions": ('customers_of(row[f"cemi_{n}"]', 'customers_of(row["cemi_1"]'),
+    "a count that is read twice": ('("sustained", "sustained_customer_seconds"', '("sustained", "sustained"'),
     "momentary ones among the sustained": ("if each.is_sustained:", "if True:"),
 }
 
@@ -76,6 +79,12 @@ def listed(made: support.Made) -> list[list[str]]:
     return [*csv.reader(support.opened(made).rows_file.read_text().splitlines())][1:]
 
 
+@lru_cache(maxsize=None)
+def counted(made: support.Made) -> str:
+    """What the program says of a whole made book."""
+    return answer_of("outagebook", "indices", "--book", made.book, "--by", "whole", "--over", 300)
+
+
 number = itertools.count()
 
 
@@ -84,12 +93,14 @@ def catching(old: str, new: str) -> Iterator[str]:
     folder = support.folder() / f"planted-{next(number)}"
     planted_package(folder, old, new)
     with imported_from(folder):
-        compare, rows, errors = (import_module(f"outage_tools.{name}") for name in ("compare", "rows", "errors"))
+        names = "compare", "rows", "errors", "selections"
+        compare, rows, errors, selections = (import_module(f"outage_tools.{name}") for name in names)
     for made in support.books():
         with closing(sqlite3.connect(f"file:{made.book}?mode=ro", uri=True)) as database:
             try:
                 lines = made.table.read_text().splitlines()
-                compare.checked(rows.read_book(database), listed(made), lines, database, made.book, "")
+                whole = {name: each["whole"] for name, each in selections.read_selections(counted(made)).items()}
+                compare.checked(rows.read_book(database), listed(made), lines, whole, database, made.book, "")
             except errors.Differs:
                 yield made.name
 

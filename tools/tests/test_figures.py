@@ -6,12 +6,14 @@ import io
 import json
 import unittest
 from collections.abc import Callable, Iterator
+from dataclasses import replace
 from fractions import Fraction
 from typing import Any
 
 from outage_tools import figures
 from outage_tools.compare import Checked
 from outage_tools.counts import SETS, decimal_text
+from outage_tools.days import day_rows
 from outage_tools.forms import Figures, write_csv, write_json, write_text
 from outage_tools.years import lines_of
 from tests import support
@@ -77,7 +79,7 @@ class Fortnight(unittest.TestCase):
     def test_indices_are_the_words_of_the_table(self) -> None:
         """The table's, but for the decimals of ASAI, of which three say nothing."""
         lines = support.fortnight().table.read_text().splitlines()[-34:]
-        rows = [row for row in self.rows("indices") if row["from"] == "program"]
+        rows = [row for row in self.rows("indices") if row["from"] == "program" and row["index"] != "MAIFI"]
         self.assertEqual([row["decimal"] for row in rows if row["index"] == "ASAI"], ["0.99034", "0.99268"])
         for row in rows:
             if row["index"] == "ASAI":
@@ -131,6 +133,16 @@ class Sums(unittest.TestCase):
                 sum(row["customers"] for row in rows_of(figures.interruptions(found))),
                 counts.sustained + counts.momentary,
             )
+
+    def test_days_are_those_of_the_program(self) -> None:
+        """What the tools add up by day is what the program prints of each day."""
+        for found in self.each():
+            of_days = found.selected("day")["all"]
+            self.assertEqual([row.day.isoformat() for row in day_rows(found)], [*of_days])
+            for row in day_rows(found):
+                wanted, begun = of_days[row.day.isoformat()], row.begun
+                counts = replace(wanted.counts, with_some=begun.counts.with_some)  # whose they are isn't added up
+                self.assertEqual((begun.counts, begun.saidi, begun.saifi), (counts, wanted.saidi, wanted.saifi))
 
     def test_what_each_command_moved_adds_up(self) -> None:
         for found in self.each():

@@ -98,14 +98,22 @@ class Eia(unittest.TestCase):
 class Ceer(unittest.TestCase):
     LIMIT = "interruptions of more than 300 seconds"
 
-    def test_three_minutes_are_told(self) -> None:
+    def test_three_minutes_are_the_programs(self) -> None:
+        """What docs/use/FAQ.md shows of the fortnight by another limit; the kinds of causes add up to it."""
         made = support.fortnight()
         rows = rows_of(made, "ceer", groups_of(made, "PLANNED,planned"))
-        asked = [row for name, row in rows.items() if "3 minutes" in name]
-        self.assertEqual(len(asked), 9)
-        for row in asked:
-            self.assertEqual((row["value"], row["from"]), ("", NOWHERE))
-            self.assertIn("300 seconds", row["note"])
+        asked = {name: row for name, row in rows.items() if "3 minutes" in name}
+        self.assertEqual(len(asked), 13)
+        for of, wanted in (("all events", ("2.426", "194.509")), ("without exceptional events", ("1.979", "147.578"))):
+            for index, value in zip(("SAIFI", "SAIDI"), wanted):
+                row, *parts = (
+                    asked[f"{index} {kind}, {of}, interruptions of more than 3 minutes"]
+                    for kind in ("planned and unplanned", "planned", "unplanned")
+                )
+                self.assertEqual((row["value"], row["from"]), (value, PROGRAM))
+                exact = [Fraction(int(each["numerator"]), int(each["denominator"])) for each in (row, *parts)]
+                self.assertEqual(exact[0], sum(exact[1:]))
+        self.assertEqual(asked["MAIFI interruptions of at most 3 minutes"]["from"], PROGRAM)
 
     def test_planned_and_unplanned(self) -> None:
         """What docs/use/INDICES.md shows of planned and unplanned causes."""

@@ -4,9 +4,10 @@ import contextlib
 import io
 import json
 import os
+import re
 import sys
 import unittest
-from collections.abc import Iterable
+from collections.abc import Iterable, Iterator
 from fractions import Fraction
 from functools import lru_cache
 from pathlib import Path
@@ -25,7 +26,9 @@ from tests.support import Made, written
 from tests.test_check import WORDS, Exports
 
 YEAR = ("--first", "2025-01-01", "--days", DAYS, "--zone", EASTERN, "--overlaps", "join")
-SILENT = {"one phase of three", "ten outages on the neighbouring fuse"}  # docs/use/CHECKING.md says why
+PAGE = support.ROOT / "docs/use/CHECKING.md"
+SILENT = {"one phase of three", "ten outages on the neighbouring fuse"}  # the page says why
+LAST_ALONE = {"register cut off after five sixths", "fuse on the wrong trunk section"}  # told by a last book alone
 BETWEEN = "devices on no loop that are closed normally between two feeders"
 NOTED = "left out, changed or noticed when rows are written"
 TOLD = {  # by which line, and with which share at least; or by which finding, which has none
@@ -126,6 +129,26 @@ def with_last(mistake: str) -> dict[str, Any]:
     return looked_at(mistake, "--last", made.book, "--table", made.table)
 
 
+def told_by(mistake: str) -> tuple[str, str]:
+    """The line that tells a mistake in the text of the check, and its share."""
+    if mistake in SILENT:
+        return "nothing", ""
+    whole = with_last(mistake)
+    by, least = TOLD[mistake]
+    if not least:
+        text = next(finding["text"] for finding in whole["findings"] if finding["topic"] == by)
+        return (by if by != NOTED else re.split(": (?=[0-9])", text.partition(": ")[2])[0]), ""
+    line = lines_of(whole)[by]
+    return re.split(r" \(|: |, ", line["text"])[0], f"{100 * line['share']:.1f}%"
+
+
+def rows_of_table() -> Iterator[str]:
+    """The rows of the page's table."""
+    for mistake in MISTAKES:
+        line, share_text = told_by(mistake)
+        yield f"| {mistake} | {line}{' (with `--last` alone)' if mistake in LAST_ALONE else ''} | {share_text} |"
+
+
 class Mistakes(unittest.TestCase):
     """Each one alone, in exports that have no other."""
 
@@ -160,11 +183,21 @@ class Mistakes(unittest.TestCase):
 
     def test_what_goes_without_a_word(self) -> None:
         self.assertLessEqual(len(SILENT), 3)
-        page = (support.ROOT / "docs/use/CHECKING.md").read_text(encoding="utf-8")
         for mistake in SILENT:
             whole = with_last(mistake)
             self.assertEqual((whole["findings"], whole["implausible"]["lines"]), ([], []), mistake)
-            self.assertIn(mistake, page.replace("\n", " "))
+
+    def test_what_only_a_last_book_tells(self) -> None:
+        for mistake in MISTAKES.keys() - SILENT:
+            whole = looked_at(mistake)
+            is_silent = not whole["findings"] and not whole["implausible"]["lines"]
+            self.assertEqual(is_silent, mistake in LAST_ALONE, mistake)
+
+    def test_the_table_of_the_page(self) -> None:
+        """The page has a row for each mistake, with the line that tells it and its share."""
+        table = [line for line in PAGE.read_text(encoding="utf-8").splitlines() if line.startswith("| ")]
+        for row in rows_of_table():
+            self.assertIn(row, table)
 
     def test_the_greatest_first(self) -> None:
         lines = with_last("SCADA times in UTC without Z")["implausible"]["lines"]
@@ -368,10 +401,10 @@ class Feeds(unittest.TestCase):
         """It is what loses supply when the device alone is opened."""
         book = support.opened(year_before()).book
         supply, feeding = Supply(book), Feeding(book)
-        before = supply.supplied()
+        before = supply.supplied
         for device in book.devices:
             was_closed = supply.set_position(device, False)
-            lost = (before - supply.supplied()) & book.sections.keys()
+            lost = (before - supply.supplied) & book.sections.keys()
             self.assertEqual(feeding.behind(device.number, book.period.first), lost, device.name)
             if was_closed:
                 supply.set_position(device, True)

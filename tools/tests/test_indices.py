@@ -10,6 +10,7 @@ from outage_tools import figures
 from outage_tools.compare import Checked, open_book
 from outage_tools.counts import SETS, fraction_text
 from outage_tools.errors import BookError
+from outage_tools.feeders import feeder_rows, section_rows
 from outage_tools.indices import Loads, computed, loads_of, meaning_of, momentary_events, read_hours
 from outage_tools.sums import add_up, district_of
 from outage_tools.supply import sweep
@@ -146,6 +147,29 @@ class MadeBooks(unittest.TestCase):
             sums = add_up(parts)
             for name in SETS:
                 self.assertEqual(sums.further_indices(name), whole[name], seed)
+
+
+class ByOtherLimits(unittest.TestCase):
+    """What tools add up of interruptions, where the program says it by another limit."""
+
+    def books(self) -> list[Checked]:
+        return [support.opened(made) for made in (*support.books()[:6], support.edges())]
+
+    def test_customers_with_a_long_interruption(self) -> None:
+        for found in self.books():
+            indices = computed(found, HOURS, None)
+            for hours, text in zip(HOURS, ("0.5", "1", "8", "24")):
+                for name, rates in found.selected("whole", int(3_600 * hours) - 1).items():
+                    wanted = share(rates["whole"].counts.with_some[0], found)
+                    self.assertEqual(indices[name][f"CELID-S-{text}"], wanted)
+
+    def test_customer_seconds_of_feeders_and_sections(self) -> None:
+        """An interruption has a second at least: those of at most one second have one each."""
+        for found in self.books():
+            for by, rows in (("feeder", feeder_rows(found)), ("section", section_rows(found))):
+                for row in rows:
+                    counts = found.selected(by, 1)[row.set][str(row.name)].counts
+                    self.assertEqual(row.seconds, counts.sustained_seconds + counts.momentary)
 
 
 class MomentaryEvents(unittest.TestCase):

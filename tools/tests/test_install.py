@@ -298,7 +298,7 @@ class Screen(unittest.TestCase):
         """They are named before they are installed; the tests' are among those of the whole test run."""
         status, lines, complaint = self.packages("--screen-only")
         install = "apt-get install -y --no-install-recommends"
-        own = "python3 python3-aiohttp"
+        own = "python3 python3-aiohttp python3-networkx"
         self.assertEqual((status, complaint), (0, ""))
         self.assertEqual(lines, [f"installing: {own}", "apt-get update", f"{install} {own}"])
         status, lines, complaint = self.packages()
@@ -316,12 +316,12 @@ class Screen(unittest.TestCase):
             self.assertEqual((status, lines), (64, []))
             self.assertTrue(complaint.startswith("usage: "))
 
-    def test_without_aiohttp(self) -> None:
-        """A Python without site packages finds none of Debian's: one line names the package that is missing."""
+    def test_without_packages(self) -> None:
+        """A Python without site packages finds none of Debian's: one line names those that are missing."""
         command = [sys.executable, "-E", "-S", str(support.ROOT / "screen/outagebook-screen"), "--help"]
         done = subprocess.run(command, capture_output=True, text=True, check=False)
         self.assertEqual((done.returncode, done.stdout), (1, ""))
         self.assertEqual(
             done.stderr,
-            "outagebook-screen: the package python3-aiohttp is missing; as root: apt-get install python3-aiohttp\n",
+            "outagebook-screen: packages are missing; as root: apt-get install python3-aiohttp python3-networkx\n",
         )

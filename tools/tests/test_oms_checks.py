@@ -138,12 +138,19 @@ class Checks(unittest.TestCase):
         self.assertNotIn("OMS-T-2044-1-O", done.out)
 
     def test_very_many_rows_that_can_not_be_taken(self) -> None:
-        """Standard error tells the first thousand, the report all of them."""
-        customers = sample("customers") + "".join(f"{number},NOWHERE,2020-01-01,\n" for number in range(6_000, 7_500))
+        """Standard error tells the first twenty with the same wrong, and what else is wrong; the report tells all of them."""
+        customers = sample("customers") + "".join(
+            f"{number},NOWHERE-{number},2020-01-01,\n" for number in range(6_000, 7_500)
+        )
+        customers += "7600,OAK-STREET,soon,\n"
         done = self.run_with("--report", self.folder / "report.txt", customers=customers)
-        self.assertEqual((done.status, done.out, len(done.complaints)), (1, "", 1_000))
-        self.assertIn("and 500 more, which --report FILE tells", done.err)
-        self.assertEqual((self.folder / "report.txt").read_text().count("NOWHERE is no section"), 1_500)
+        self.assertEqual((done.status, done.out), (1, ""))
+        self.assertEqual(len([line for line in done.err.splitlines() if "is no section" in line]), 20)
+        self.assertIn(
+            "customers.csv: the same of 1480 more rows (rows 34 to 1513), which --report FILE tells", done.err
+        )
+        self.assertIn("customers.csv: row 1514: ", done.err)
+        self.assertEqual((self.folder / "report.txt").read_text().count("is no section"), 1_500)
 
     # The network and the customers.
 
@@ -362,8 +369,9 @@ class Checks(unittest.TestCase):
 
     def test_more_than_a_book_has_room_for(self) -> None:
         sections = "".join(f"section,S-{number},7,,,\n" for number in range(1_100))
-        done = self.run_with(gis=sample("gis") + sections)
-        self.assertEqual(len([line for line in done.complaints if "at most 1024 nodes" in line]), 1_100 + 6 - 1_024)
+        report = self.folder / "report.txt"
+        self.run_with("--report", report, gis=sample("gis") + sections)
+        self.assertEqual(report.read_text().count("at most 1024 nodes"), 1_100 + 6 - 1_024)
 
 
 @needs_program

@@ -10,7 +10,8 @@ from pathlib import Path
 
 from outage_tools.compare import Checked, open_book
 from outage_tools.oms.network import MOST_NODES
-from tests import exports, program_books, support
+from outage_tools.sums import add_up, read_districts
+from tests import exports, many_books, program_books, support
 from tests.made_grid import PERIOD, Grid, Interval, made_grid
 from tests.network_runs import Cut, run, rows_of
 
@@ -18,6 +19,7 @@ IS_LONG = bool(os.environ.get("OUTAGEBOOK_LONG"))
 SIZES = {  # seed, substations, feeders, length of each, tickets
     "small": (1, 2, 4, 30, 400 if IS_LONG else 100),
     "large": (2, 4, 8, 80, 100 if IS_LONG else 20),
+    "huge": (3, 31, 8, 103, 60),  # 200,000 edges; of feeders there are 255 at most
 }
 WORDS = [
     *("--column", "ID=name", "--column", "Type=kind", "--column", "End 1=from", "--column", "End 2=to"),
@@ -46,16 +48,16 @@ def cut_of(grid: Grid, name: str, tickets: str, *words: str) -> Cut:
     return run(*said, *sources, *WORDS, *words, to=f"grid-{name}")
 
 
-def text_of(name: str) -> Path:
+def text_of(name: str, folder: Path | None = None) -> Path:
     """The rows of commands of a cut's exports."""
-    folder = support.folder() / f"grid-{name}"
+    folder = folder or support.folder() / f"grid-{name}"
     causes = support.written("grid-causes.csv", "code,name\n1,WIND\n")
     words = [
         "--causes",
         causes,
         *(word for each in ("gis", "customers", "oms") for word in (f"--{each}", folder / f"{each}.csv")),
     ]
-    text = folder.with_name(f"grid-{name}.rows.csv")
+    text = support.folder() / f"grid-{name}.rows.csv"
     done = exports.run(*words, "--first", PERIOD[0], "--days", PERIOD[1], "--zone", PERIOD[2], "-o", text)
     if done.status:
         raise AssertionError(done.err)
@@ -120,6 +122,40 @@ class Made(unittest.TestCase):
         detail = cut_of(grid, "many", "--oms")
         text = f"nodes with GRID, and a book takes {MOST_NODES}: --only-opened, or outagebook-districts"
         self.assertTrue(detail.err.splitlines()[-1].endswith(text), detail.err)
+
+
+class Huge(unittest.TestCase):
+    """Of 200,000 edges, coarse, in districts whose ties are cut where no ticket closes them."""
+
+    def books(self) -> list[str]:
+        """The program's book of each district."""
+        done = cut_of(grid_of("huge"), "huge", "--only-opened")
+        self.assertEqual(done.status, 0, done.err)
+        whole, folder = support.folder() / "grid-huge", support.folder() / "grid-huge-districts"
+        files = [whole / "gis.csv", whole / "customers.csv", "--oms", whole / "oms.csv"]
+        said = many_books.run("districts", "cut", *files, "-o", folder)
+        self.assertEqual(said.returncode, 0, said.stderr)
+        names = sorted(path.name for path in folder.iterdir() if path.is_dir())
+        return [str(program_books.new_book(name, PERIOD, text_of(name, folder / name))) for name in names]
+
+    @support.needs_program
+    def test_districts(self) -> None:
+        grid, books = grid_of("huge"), self.books()
+        had: dict[int, list[Interval]] = {}
+        for book in books:
+            with open_book(book, program=str(support.PROGRAM)) as found:
+                had |= by_customer(found)
+        self.assertEqual(had, grid.interruptions())
+        sums = add_up(read_districts(books, [None] * len(books), str(support.PROGRAM)))
+        figures = grid.figures()
+        for index in ("SAIFI", "SAIDI", "CAIDI", "CAIFI"):
+            self.assertEqual(sums.indices("all")[index], figures[index], index)
+        self.assertEqual(sums.total, figures["W"])
+        self.assertEqual(sums.counts["all"].momentary, figures["MOMENTARY"])
+
+
+if not IS_LONG:  # it takes minutes
+    del Huge
 
 
 KINDS = ("line", "line", "line", "busbar", "transformer", "fuse", "switch", "breaker")

@@ -4,6 +4,7 @@ import random
 import unittest
 from collections.abc import Iterator
 from fractions import Fraction
+from typing import Any
 from unittest import mock
 
 from outage_tools import figures, section_groups
@@ -209,10 +210,12 @@ class Fortnight(unittest.TestCase):
 
     def test_a_sum_that_is_not_the_books_own_is_an_error(self) -> None:
         of_sections = self.groups(TOWNS)
-        whole = section_groups.sum_of
-        with mock.patch.object(
-            section_groups, "sum_of", lambda rows, which, length: whole(list(rows)[:1], which, length)
-        ):
+        together = section_groups.together
+
+        def first_alone(found: Checked, row: Any, name: str, which: str, parts: Any) -> Any:
+            return together(found, row, name, which, parts[:1])
+
+        with mock.patch.object(section_groups, "together", first_alone):
             with self.assertRaises(Differs):
                 groups(fortnight(), of_sections)
 

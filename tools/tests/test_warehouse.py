@@ -16,7 +16,6 @@ from typing import Any
 
 from outage_tools import figures
 from outage_tools.counts import SETS, decimal_text, fraction_text, quotient
-from outage_tools.rates import counted
 from outage_tools.sums import PeriodKey, Sums, add_up, district_of
 from tests import many_books, own_postgres
 from tests.many_books import books_of, district_rows, opened, parts_of, run, table_of, with_tables
@@ -117,7 +116,7 @@ class Views(unittest.TestCase):
         for each in sums.districts:
             found = opened(self.book_of(each.name))
             begin = found.book.period.bounds[since]
-            for one in counted(found, name):
+            for one in found.counted(name):
                 if cause in (None, found.book.causes[one.cause]):
                     total += one.customers * max(0, one.until - max(one.since, begin))
         return total
@@ -221,7 +220,7 @@ class Views(unittest.TestCase):
             length = end - begin
             served = sum(block.seconds(begin, end) for found in books for block in found.book.blocks)
             for name in SETS:
-                of_set = [each for found in books for each in counted(found, name) if each.since >= begin]
+                of_set = [each for found in books for each in found.counted(name) if each.since >= begin]
                 sustained = [each for each in of_set if each.is_sustained]
                 seconds = sum(each.customer_seconds for each in sustained)
                 row = self.between(period, period.day(first), period.last, name)

@@ -1,7 +1,6 @@
 //! Tests of the interruption rows that a book hands out.
 use crate::example::act_on;
 use crate::feeders::TWO_FEEDERS;
-use crate::fortnight::{FORTNIGHT, ROWS, TWO_WEEKS};
 use crate::step::{ONE_DAY, Span};
 use ob_book::Book;
 use ob_command::read_body;
@@ -92,12 +91,6 @@ fn hands(rt: &impl Abort, alloc: Global, book: &Book<Windowed>, wanted: &str) ->
         assert!(rt; found.as_str() == line, "{found}");
     }
     Ok(())
-}
-
-#[test]
-fn the_rows_of_the_fortnight(rt: HostRuntime) -> Result<(), Fail> {
-    let book = book_of(rt.alloc(), TWO_WEEKS, &[FORTNIGHT])?;
-    hands(&rt, rt.alloc(), &book, ROWS)
 }
 
 // One customer joins in the outage, one leaves as it begins, and one leaves in it. A section that

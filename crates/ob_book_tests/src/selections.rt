@@ -1,86 +1,147 @@
-//! Tests of the indices of a book by feeder, month, cause and section. The wanted lines were found by
-//! `oracle/selections.py`.
-use crate::fortnight::{FORTNIGHT, TWO_WEEKS};
+//! Tests of the indices of a book by feeder, month, day, cause and section. The wanted lines were
+//! found by `oracle/selections.py`.
+use crate::feeders::TWO_FEEDERS;
 use crate::rows::book_of;
+use crate::step::Span;
 use ob_book::Book;
-use ob_selections::{By, indices_text};
+use ob_index::Which;
+use ob_net::Second;
+use ob_selections::{By, Selection, figures_of, indices_text, selections_law, sums_law};
 use ob_sweep::Windowed;
 use std::alloc::Global;
 use std::process::Abort;
 use std::test::Fail;
 
+// The last day of a month and two days of the next.
+const THREE_DAYS: Span = (b"2023-12-31", 3, b"UTC0");
+
+// An outage of one feeder for an hour, and one of the other for 300 seconds on a marked day. A
+// section that no device joins has no supply from the start.
+const OUTAGES: &'static str = "\
+switch B1 open 1704070800 3 K1
+switch B1 close 1704074400 3 K1
+switch B2 open 1704157000 4 K1
+switch B2 close 1704157300 4 K1
+section S9 9
+connect 14 S9 1704067200 -
+mark 2024-01-02 E1
+";
+
 // The names of the columns.
 const HEADER: &'static str = "\
-key,set,period_seconds,customer_seconds_served,customers_served,customers_served_3,sustained,sustained_customer_seconds,interrupted,momentary,saifi,saifi_3,saidi,saidi_3,caidi,caidi_3,caifi,caifi_3,asai,asai_5,cemi_1,cemi_1_3,cemi_2,cemi_2_3,cemi_3,cemi_3_3,cemi_4,cemi_4_3,cemi_5,cemi_5_3,cemi_6,cemi_6_3,cemi_7,cemi_7_3,cemi_8,cemi_8_3,cemi_9,cemi_9_3,cemi_10,cemi_10_3,maifi,maifi_3
-";
+key,set,period_seconds,customer_seconds_served,customers_served,customers_served_3,sustained,sustained_customer_seconds,interrupted,momentary,saifi,saifi_3,saidi,saidi_3,caidi,caidi_3,caifi,caifi_3,asai,asai_5,cemi_1,cemi_1_3,cemi_2,cemi_2_3,cemi_3,cemi_3_3,cemi_4,cemi_4_3,cemi_5,cemi_5_3,cemi_6,cemi_6_3,cemi_7,cemi_7_3,cemi_8,cemi_8_3,cemi_9,cemi_9_3,cemi_10,cemi_10_3,maifi,maifi_3";
 
-// Both feeders.
-const FEEDERS: &'static str = "\
-1,all,1206000,21664800,6018/335,17.964,32,222130,18,0,5360/3009,1.781,7441355/36108,206.086,22213/192,115.693,16/9,1.778,2144267/2166480,0.98975,1005/1003,1.002,1340/3009,0.445,335/3009,0.111,335/3009,0.111,335/3009,0.111,0/1,0.000,0/1,0.000,0/1,0.000,0/1,0.000,0/1,0.000,0/1,0.000
-1,unmarked,1206000,21664800,6018/335,17.964,32,222130,18,0,5360/3009,1.781,7441355/36108,206.086,22213/192,115.693,16/9,1.778,2144267/2166480,0.98975,1005/1003,1.002,1340/3009,0.445,335/3009,0.111,335/3009,0.111,335/3009,0.111,0/1,0.000,0/1,0.000,0/1,0.000,0/1,0.000,0/1,0.000,0/1,0.000
-2,all,1206000,16110000,895/67,13.358,41,142700,14,16,2747/895,3.069,95609/537,178.043,7135/123,58.008,41/14,2.929,159673/161100,0.99114,938/895,1.048,871/895,0.973,536/895,0.599,201/895,0.225,201/895,0.225,0/1,0.000,0/1,0.000,0/1,0.000,0/1,0.000,0/1,0.000,1072/895,1.198
-2,unmarked,1206000,16110000,895/67,13.358,27,54500,13,16,1809/895,2.021,36515/537,67.998,2725/81,33.642,27/13,2.077,32111/32220,0.99662,871/895,0.973,536/895,0.599,201/895,0.225,201/895,0.225,0/1,0.000,0/1,0.000,0/1,0.000,0/1,0.000,0/1,0.000,0/1,0.000,1072/895,1.198
-";
+// What there is a line for, the longest momentary interruption, how many lines the text has, and
+// two of them.
+type Listed = (By, Second, usize, &'static str);
 
-// Both months: an interruption counts in the one in which it begins.
-const MONTHS: &'static str = "\
-2025-03,all,687600,21380400,5939/191,31.094,45,318090,32,13,8595/5939,1.447,2025173/11878,170.498,10603/90,117.811,45/32,1.406,,,6112/5939,1.029,2101/5939,0.354,382/5939,0.064,0/1,0.000,0/1,0.000,0/1,0.000,0/1,0.000,0/1,0.000,0/1,0.000,0/1,0.000,2483/5939,0.418
-2025-03,unmarked,687600,21380400,5939/191,31.094,31,229890,21,13,5921/5939,0.997,1463633/11878,123.222,7663/62,123.597,31/21,1.476,,,4011/5939,0.675,1528/5939,0.257,382/5939,0.064,0/1,0.000,0/1,0.000,0/1,0.000,0/1,0.000,0/1,0.000,0/1,0.000,0/1,0.000,2483/5939,0.418
-2025-04,all,518400,16394400,253/8,31.625,28,46740,15,3,224/253,0.885,6232/253,24.632,779/28,27.821,28/15,1.867,,,120/253,0.474,80/253,0.316,24/253,0.095,0/1,0.000,0/1,0.000,0/1,0.000,0/1,0.000,0/1,0.000,0/1,0.000,0/1,0.000,24/253,0.095
-2025-04,unmarked,518400,16394400,253/8,31.625,28,46740,15,3,224/253,0.885,6232/253,24.632,779/28,27.821,28/15,1.867,,,120/253,0.474,80/253,0.316,24/253,0.095,0/1,0.000,0/1,0.000,0/1,0.000,0/1,0.000,0/1,0.000,0/1,0.000,0/1,0.000,24/253,0.095
-";
+const LISTED: [Listed; 6] = [
+    (
+        By::Whole,
+        299,
+        3,
+        "\
+whole,all,259200,1900800,22/3,7.333,11,192300,11,0,3/2,1.500,9615/22,437.045,3205/11,291.364,1/1,1.000,5695/6336,0.89883,3/2,1.500,0/1,0.000,0/1,0.000,0/1,0.000,0/1,0.000,0/1,0.000,0/1,0.000,0/1,0.000,0/1,0.000,0/1,0.000,0/1,0.000
+",
+    ),
+    (
+        By::Feeder,
+        300,
+        7,
+        "\
+1,all,259200,864000,10/3,3.333,5,18000,5,0,3/2,1.500,90/1,90.000,60/1,60.000,1/1,1.000,47/48,0.97917,3/2,1.500,0/1,0.000,0/1,0.000,0/1,0.000,0/1,0.000,0/1,0.000,0/1,0.000,0/1,0.000,0/1,0.000,0/1,0.000,0/1,0.000
+2,unmarked,259200,864000,10/3,3.333,0,0,0,0,0/1,0.000,0/1,0.000,,,,,1/1,1.00000,0/1,0.000,0/1,0.000,0/1,0.000,0/1,0.000,0/1,0.000,0/1,0.000,0/1,0.000,0/1,0.000,0/1,0.000,0/1,0.000,0/1,0.000
+",
+    ),
+    (
+        By::Month,
+        300,
+        5,
+        "\
+2023-12,all,86400,0,0/1,0.000,0,0,0,0,,,,,,,,,,,,,,,,,,,,,,,,,,,,,,,,
+2024-01,unmarked,172800,1900800,11/1,11.000,6,190800,6,0,6/11,0.545,3180/11,289.091,530/1,530.000,1/1,1.000,,,6/11,0.545,0/1,0.000,0/1,0.000,0/1,0.000,0/1,0.000,0/1,0.000,0/1,0.000,0/1,0.000,0/1,0.000,0/1,0.000,0/1,0.000
+",
+    ),
+    (
+        By::Day,
+        300,
+        7,
+        "\
+2024-01-01,all,259200,1900800,22/3,7.333,6,190800,6,0,9/11,0.818,4770/11,433.636,530/1,530.000,1/1,1.000,475/528,0.89962,9/11,0.818,0/1,0.000,0/1,0.000,0/1,0.000,0/1,0.000,0/1,0.000,0/1,0.000,0/1,0.000,0/1,0.000,0/1,0.000,0/1,0.000
+2024-01-02,all,259200,1900800,22/3,7.333,0,0,0,5,0/1,0.000,0/1,0.000,,,,,1/1,1.00000,0/1,0.000,0/1,0.000,0/1,0.000,0/1,0.000,0/1,0.000,0/1,0.000,0/1,0.000,0/1,0.000,0/1,0.000,0/1,0.000,15/22,0.682
+",
+    ),
+    (
+        By::Cause,
+        300,
+        7,
+        "\
+STORM,unmarked,259200,1900800,22/3,7.333,5,18000,5,0,15/22,0.682,450/11,40.909,60/1,60.000,1/1,1.000,523/528,0.99053,15/22,0.682,0/1,0.000,0/1,0.000,0/1,0.000,0/1,0.000,0/1,0.000,0/1,0.000,0/1,0.000,0/1,0.000,0/1,0.000,0/1,0.000
+PLANNED,all,259200,1900800,22/3,7.333,0,0,0,5,0/1,0.000,0/1,0.000,,,,,1/1,1.00000,0/1,0.000,0/1,0.000,0/1,0.000,0/1,0.000,0/1,0.000,0/1,0.000,0/1,0.000,0/1,0.000,0/1,0.000,0/1,0.000,15/22,0.682
+",
+    ),
+    (
+        By::Section,
+        3_600,
+        9,
+        "\
+S2,all,259200,518400,2/1,2.000,0,0,0,3,0/1,0.000,0/1,0.000,,,,,1/1,1.00000,0/1,0.000,0/1,0.000,0/1,0.000,0/1,0.000,0/1,0.000,0/1,0.000,0/1,0.000,0/1,0.000,0/1,0.000,0/1,0.000,3/2,1.500
+S9,all,259200,172800,2/3,0.667,1,172800,1,0,3/2,1.500,4320/1,4320.000,2880/1,2880.000,1/1,1.000,0/1,0.00000,3/2,1.500,0/1,0.000,0/1,0.000,0/1,0.000,0/1,0.000,0/1,0.000,0/1,0.000,0/1,0.000,0/1,0.000,0/1,0.000,0/1,0.000
+",
+    ),
+];
 
-// The whole book.
-const WHOLE: &'static str = "\
-whole,all,1206000,37774800,10493/335,31.322,73,364830,32,16,24455/10493,2.331,4073935/20986,194.126,12161/146,83.295,73/32,2.281,1246999/1259160,0.99034,10720/10493,1.022,1005/1499,0.670,3350/10493,0.319,1675/10493,0.160,1675/10493,0.160,0/1,0.000,0/1,0.000,0/1,0.000,0/1,0.000,0/1,0.000,5360/10493,0.511
-whole,unmarked,1206000,37774800,10493/335,31.322,59,276630,31,16,19765/10493,1.884,3089035/20986,147.195,9221/118,78.144,59/31,1.903,1249939/1259160,0.99268,10385/10493,0.990,5360/10493,0.511,1675/10493,0.160,1675/10493,0.160,670/10493,0.064,0/1,0.000,0/1,0.000,0/1,0.000,0/1,0.000,0/1,0.000,5360/10493,0.511
-";
-
-// One cause.
-const PLANNED: &'static str = "\
-PLANNED,all,1206000,37774800,10493/335,31.322,8,72000,8,3,2680/10493,0.255,402000/10493,38.311,150/1,150.000,1/1,1.000,10473/10493,0.99809,2680/10493,0.255,0/1,0.000,0/1,0.000,0/1,0.000,0/1,0.000,0/1,0.000,0/1,0.000,0/1,0.000,0/1,0.000,0/1,0.000,1005/10493,0.096
-PLANNED,unmarked,1206000,37774800,10493/335,31.322,8,72000,8,3,2680/10493,0.255,402000/10493,38.311,150/1,150.000,1/1,1.000,10473/10493,0.99809,2680/10493,0.255,0/1,0.000,0/1,0.000,0/1,0.000,0/1,0.000,0/1,0.000,0/1,0.000,0/1,0.000,0/1,0.000,0/1,0.000,1005/10493,0.096
-";
-
-// One section, where an interruption of an hour is momentary.
-const QUARRY: &'static str = "\
-QUARRY,all,1206000,2412000,2/1,2.000,4,81000,2,6,2/1,2.000,675/1,675.000,675/2,337.500,2/1,2.000,259/268,0.96642,1/1,1.000,1/1,1.000,0/1,0.000,0/1,0.000,0/1,0.000,0/1,0.000,0/1,0.000,0/1,0.000,0/1,0.000,0/1,0.000,3/1,3.000
-QUARRY,unmarked,1206000,2412000,2/1,2.000,4,81000,2,6,2/1,2.000,675/1,675.000,675/2,337.500,2/1,2.000,259/268,0.96642,1/1,1.000,1/1,1.000,0/1,0.000,0/1,0.000,0/1,0.000,0/1,0.000,0/1,0.000,0/1,0.000,0/1,0.000,0/1,0.000,3/1,3.000
-";
-
-// The text of indices as a string.
-fn listed(alloc: Global, book: &Book<Windowed>, by: By, longest: u64) -> Result<String, Fail> {
-    let text = indices_text(alloc, book, by, longest)?;
-    String::from_utf8(text).map_err(|_| "no text".into())
+// Checks how many lines a text of indices has, and some of them.
+fn is_listed(
+    rt: &impl Abort,
+    alloc: Global,
+    book: &Book<Windowed>,
+    listed: &Listed,
+) -> Result<(), Fail> {
+    let (by, longest, count, wanted) = *listed;
+    let text = String::from_utf8(indices_text(alloc, book, by, longest)?).map_err(|_| "no text")?;
+    let lines = text.as_str();
+    assert!(rt; lines.lines().next() == Some(HEADER));
+    assert!(rt; lines.lines().count() == count);
+    for line in wanted.lines() {
+        assert!(rt; lines.lines().any(|found| found == line), "{line}");
+    }
+    Ok(())
 }
 
-// Checks that a text has a header, and lines among those of the rest.
-fn has(rt: &impl Abort, text: &str, wanted: &str) {
-    assert!(rt; text.lines().next() == HEADER.lines().next());
-    for line in wanted.lines() {
-        assert!(rt; text.lines().any(|found| found == line), "{line}");
-    }
+// The counts CI, CSI, CN and MI of a feeder's customers, and the seconds for which they are served.
+fn counts_on(book: &Book<Windowed>, feeder: u8, which: Which) -> (u64, u64, u64, u64, u64) {
+    let selection = Selection {
+        feeder: Some(feeder),
+        section: None,
+        cause: None,
+        day: None,
+        first: 0,
+        end: book.period().days(),
+        which,
+        longest: 300,
+    };
+    let figures = figures_of(book, &selection);
+    let counts = figures.counts;
+    (counts.ci, counts.csi, counts.cn, counts.mi, figures.served)
 }
 
 #[test]
-fn the_indices_of_the_fortnight(rt: HostRuntime) -> Result<(), Fail> {
-    let book = book_of(rt.alloc(), TWO_WEEKS, &[FORTNIGHT])?;
-    let feeders = listed(rt.alloc(), &book, By::Feeder, 300)?;
-    has(&rt, feeders.as_str(), FEEDERS);
-    assert!(rt; feeders.as_str().lines().count() == 5);
-    let months = listed(rt.alloc(), &book, By::Month, 300)?;
-    has(&rt, months.as_str(), MONTHS);
-    let whole = listed(rt.alloc(), &book, By::Whole, 300)?;
-    has(&rt, whole.as_str(), WHOLE);
+fn counts_of_two_outages(rt: HostRuntime) -> Result<(), Fail> {
+    let book = book_of(rt.alloc(), THREE_DAYS, &[TWO_FEEDERS, OUTAGES])?;
+    assert!(rt; counts_on(&book, 1, Which::All) == (5, 18_000, 5, 0, 864_000));
+    assert!(rt; counts_on(&book, 2, Which::All) == (0, 0, 0, 5, 864_000));
+    assert!(rt; counts_on(&book, 2, Which::Unmarked) == (0, 0, 0, 0, 864_000));
     Ok(())
 }
 
 #[test]
-fn causes_and_sections_of_the_fortnight(rt: HostRuntime) -> Result<(), Fail> {
-    let book = book_of(rt.alloc(), TWO_WEEKS, &[FORTNIGHT])?;
-    let causes = listed(rt.alloc(), &book, By::Cause, 300)?;
-    has(&rt, causes.as_str(), PLANNED);
-    let sections = listed(rt.alloc(), &book, By::Section, 3600)?;
-    has(&rt, sections.as_str(), QUARRY);
+fn indices_of_two_outages(rt: HostRuntime) -> Result<(), Fail> {
+    selections_law();
+    sums_law();
+    let book = book_of(rt.alloc(), THREE_DAYS, &[TWO_FEEDERS, OUTAGES])?;
+    for listed in &LISTED {
+        is_listed(&rt, rt.alloc(), &book, listed)?;
+    }
     Ok(())
 }

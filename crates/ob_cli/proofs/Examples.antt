@@ -1,5 +1,5 @@
 -- Examples of the definitions, computed.
-use Rattle.std.proofs.Common.{◌≡◌, List, [], ◌∷◌, Some, None, codes, refl}
+use Rattle.std.proofs.Common.{◌≡◌, List, [], ◌∷◌, Some, None, codes, true, false, refl}
 use Rattle.clap.specs.Faults.{defaults_fault, walk_fault}
 use Rattle.clap.specs.Walk.{walked}
 use Rattle.clap.specs.Words.{Text}
@@ -61,9 +61,14 @@ unfolding defaults_fault walk_fault walked
 init_is_of_65535_days_at_most = refl
 
 import_of_a_file : job_of (codes "outagebook" ∷ codes "import" ∷ codes "year.csv" ∷ [])
-    ≡ Some (Import (codes "book.db") (codes "year.csv"))
+    ≡ Some (Import (codes "book.db") (codes "year.csv") false)
 unfolding defaults_fault walk_fault walked
 import_of_a_file = refl
+
+import_of_a_whole_file : job_of (codes "outagebook" ∷ codes "import" ∷ codes "--whole" ∷ codes "--book=a.db" ∷ codes "year.csv" ∷ [])
+    ≡ Some (Import (codes "a.db") (codes "year.csv") true)
+unfolding defaults_fault walk_fault walked
+import_of_a_whole_file = refl
 
 export_wants_a_file : errors_of (codes "outagebook" ∷ codes "export" ∷ []) ≡ kind.MissingRequiredArgument ∷ []
 unfolding defaults_fault walk_fault walked

@@ -1,6 +1,7 @@
 -- The command line: each subcommand with its options, as `clap` reads them.
 use Rattle.std.specs.Prelude.{List, [], ◌∷◌, Some, true, codes, pos}
 use Rattle.clap.specs.Words.{App, Rule, Text, new_app, new_rule, with_rule, with_subcommand}
+use Rattle.clap.specs.declared.builder.action.ArgAction.TheVariants.{SetTrue}
 use Rattle.clap.specs.declared.builder.value_parser.ValueParser.TheVariants as parser
 
 -- an option with one value, `--name VALUE`
@@ -27,6 +28,10 @@ word_rule name = record (new_rule name) { required = true }
 -- the book that the program works on where the words name none
 abbrev pub default_book : Text
 default_book = codes "book.db"
+
+-- an option without a value, `--name`
+abbrev pub flag_rule : Text → Rule
+flag_rule name = record (new_rule name) { long = Some name; action = Some SetTrue }
 
 -- `--book FILE`
 abbrev pub book_rule : Rule
@@ -62,9 +67,9 @@ audit_app = over_book (codes "audit")
 abbrev pub migrate_app : App
 migrate_app = over_book (codes "migrate")
 
--- `import --book FILE INPUT`
+-- `import --book FILE --whole INPUT`
 abbrev pub import_app : App
-import_app = with_rule (over_book (codes "import")) (word_rule (codes "INPUT"))
+import_app = with_rules (over_book (codes "import")) (flag_rule (codes "whole") ∷ word_rule (codes "INPUT") ∷ [])
 
 -- `export --book FILE OUTPUT`
 abbrev pub export_app : App

@@ -6,9 +6,9 @@ use Rattle.clap.specs.declared.error.kind.ErrorKind.{ErrorKind}
 use Rattle.clap.specs.declared.error.kind.ErrorKind.TheVariants as kind
 use Rattle.ob_base.specs.declared.stop.Fault.TheVariants.{OutOfMemory}
 use Rattle.ob_cli.specs.Commands.{outagebook_app}
-use Rattle.ob_cli.specs.Values.{with_count, with_number, with_word}
+use Rattle.ob_cli.specs.Values.{flag_given, with_count, with_number, with_word}
 use Rattle.ob_cli.specs.declared.job.By.{By}
-use Rattle.ob_cli.specs.declared.job.By.TheVariants.{Whole, Feeder, Month, Cause, Section}
+use Rattle.ob_cli.specs.declared.job.By.TheVariants.{Whole, Feeder, Month, Day, Cause, Section}
 use Rattle.ob_cli.specs.declared.job.Job.{Job}
 use Rattle.ob_cli.specs.declared.job.Job.TheVariants.{Total, Init, Import, Export, Interruptions, Table, Indices, Audit, Migrate, Serve}
 use Rattle.ob_cli.specs.declared.read.WrongWords.{WrongWords}
@@ -21,7 +21,8 @@ init_job rows = with_word (codes "book") rows (λ book. with_word (codes "first"
     Some (Init book first days zone)))))
 
 abbrev pub import_job : List Row → Option Job
-import_job rows = with_word (codes "book") rows (λ book. with_word (codes "INPUT") rows (λ input. Some (Import book input)))
+import_job rows = with_word (codes "book") rows (λ book. with_word (codes "INPUT") rows (λ input.
+    Some (Import book input (flag_given (codes "whole") rows))))
 
 abbrev pub export_job : List Row → Option Job
 export_job rows = with_word (codes "book") rows (λ book. with_word (codes "OUTPUT") rows (λ output. Some (Export book output)))
@@ -39,6 +40,7 @@ by_named word =
     if bytes_eq word (codes "whole") then Some Whole
     else if bytes_eq word (codes "feeder") then Some Feeder
     else if bytes_eq word (codes "month") then Some Month
+    else if bytes_eq word (codes "day") then Some Day
     else if bytes_eq word (codes "cause") then Some Cause
     else if bytes_eq word (codes "section") then Some Section
     else None

@@ -1,5 +1,7 @@
 -- The values of options, in what `clap` found for a subcommand.
-use Rattle.std.specs.Prelude.{ℕ, List, Option, Some, None, if◌then◌else◌, option_and_then}
+use Rattle.std.specs.Prelude.{ℕ, Bool, false, List, Option, Some, None, codes, if◌then◌else◌, option_and_then}
+use Rattle.std.specs.Option.{option_map_or}
+use Rattle.std.specs.Str.{bytes_eq}
 use Rattle.std.specs.Str.Parse.{digits_value, without_leading_plus}
 use Rattle.clap.specs.ValueTests.{is_unsigned_in}
 use Rattle.clap.specs.Words.{Row, Text, first_of, one_of}
@@ -24,6 +26,10 @@ number_given name rows = option_and_then number_in (one_of name rows)
 -- the same of a number of 64 bits
 abbrev pub count_given : Text → List Row → Option ℕ
 count_given name rows = option_and_then count_in (one_of name rows)
+
+-- whether an option without a value was given
+abbrev pub flag_given : Text → List Row → Bool
+flag_given name rows = option_map_or (λ text. bytes_eq text (codes "true")) (first_of name rows) false
 
 -- what comes of the word given for an option, or of its default, where there is one
 abbrev pub with_word : {A : Type 0} → Text → List Row → (Text → Option A) → Option A

@@ -4,9 +4,9 @@ ghost use Rattle.clap.specs.Words.{app_of, rule_of};
 ghost use Rattle.clap.specs.declared.builder.command.Command.TheViews.{out-Command};
 ghost use Rattle.ob_cli.specs.Commands.{audit_app, bare_app, book_rule, by_rule, count_rule, default_streams, export_app};
 ghost use Rattle.ob_cli.specs.Commands.{import_app, indices_app, init_app, interruptions_app, migrate_app, number_rule, outagebook_app, over_book, over_rule, required_rule};
-ghost use Rattle.ob_cli.specs.Commands.{serve_app, table_app, total_app, word_rule};
+ghost use Rattle.ob_cli.specs.Commands.{flag_rule, serve_app, table_app, total_app, word_rule};
 
-use clap::{Arg, Command, value_parser};
+use clap::{Arg, ArgAction, Command, value_parser};
 use std::alloc::{AllocError, Global};
 
 fn book_option<'a>(alloc: Global) -> Arg<'a>
@@ -58,7 +58,7 @@ fn by_option<'a>(alloc: Global) -> Arg<'a>
         .long("by")
         .value_name("WORD")
         .default_value("whole")
-        .help("A line for each: feeder, month, cause, section, or whole for the whole book")
+        .help("A line for each: feeder, month, day, cause, section, or whole for the whole book")
 }
 
 fn over_option<'a>(alloc: Global) -> Arg<'a>
@@ -71,6 +71,17 @@ fn over_option<'a>(alloc: Global) -> Arg<'a>
         .default_value("300")
         .value_parser(value_parser!(u64).range(1..=99_999))
         .help("The longest momentary interruption; a longer one is sustained")
+}
+
+/// An option without a value.
+fn flag_option<'a>(alloc: Global, name: &'a str, help: &'a str) -> Arg<'a>
+    ensures rule { rule_of result ≡ flag_rule name.entry.now }
+    ensures local { result.global ≡ false }
+{
+    Arg::new(alloc, name)
+        .long(name)
+        .action(ArgAction::SetTrue)
+        .help(help)
 }
 
 /// A positional argument that names a file.
@@ -117,11 +128,9 @@ fn import_command<'a>(alloc: Global) -> Result<Command<'a>, AllocError>
     ensures app { IfOk result (λ c. app_of c ≡ import_app) }
     ensures local { IfOk result (λ c. (out-Command c).has_globals ≡ false) }
 {
-    book_command(alloc, "import", "Acts the commands of a CSV file on a book")?.arg(file_word(
-        alloc,
-        "INPUT",
-        "The CSV file to read",
-    ))
+    book_command(alloc, "import", "Acts the commands of a CSV file on a book")?
+        .arg(flag_option(alloc, "whole", "Adds all rows of the file, or none"))?
+        .arg(file_word(alloc, "INPUT", "The CSV file to read"))
 }
 
 fn export_command<'a>(alloc: Global) -> Result<Command<'a>, AllocError>
@@ -162,7 +171,7 @@ fn indices_command<'a>(alloc: Global) -> Result<Command<'a>, AllocError>
     book_command(
         alloc,
         "indices",
-        "Prints the indices of a book by feeder, month, cause or section as CSV",
+        "Prints the indices of a book by feeder, month, day, cause or section as CSV",
     )?
     .arg(by_option(alloc))?
     .arg(over_option(alloc))

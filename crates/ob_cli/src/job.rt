@@ -41,6 +41,8 @@ pub enum By {
     Feeder,
     /// Calendar months.
     Month,
+    /// Days.
+    Day,
     /// Causes.
     Cause,
     /// Sections.
@@ -70,6 +72,8 @@ pub enum Job {
         book: Word,
         /// The file of the commands.
         input: Word,
+        /// Whether all of them are applied, or none.
+        whole: bool,
     },
     /// Writes the changes of amounts that a book's commands made into a CSV file.
     Export {
@@ -90,7 +94,7 @@ pub enum Job {
         /// The book's file.
         book: Word,
     },
-    /// Prints the indices of a book by feeder, month, cause or section.
+    /// Prints the indices of a book by feeder, month, day, cause or section.
     Indices {
         /// The book's file.
         book: Word,

@@ -2,7 +2,7 @@
 ghost use Rattle.std.specs.Prelude.{◌≡◌, IfOk, option_and_then};
 ghost use Rattle.clap.specs.Words.{first_of, found_of, rows_of, subcommand_rows_of};
 ghost use Rattle.ob_cli.specs.Jobs.{audit_job, by_given, by_named as by_of_word, export_job, import_job, indices_job, init_job, interruptions_job, job_named, migrate_job, serve_job, table_job};
-ghost use Rattle.ob_cli.specs.Values.{count_given, number_given};
+ghost use Rattle.ob_cli.specs.Values.{count_given, flag_given, number_given};
 
 use crate::job::{By, Job, Word};
 use clap::ArgMatches;
@@ -30,6 +30,16 @@ fn count_of(matches: &ArgMatches<'_>, name: &str) -> Option<u64>
     matches.get_one::<u64>(name)
 }
 
+/// Returns whether an option without a value is given.
+fn flag_of(matches: &ArgMatches<'_>, name: &str) -> bool
+    ensures { result ≡ flag_given name.now (rows_of (found_of matches.now)) }
+{
+    match matches.get_str(name) {
+        Some(text) => text == "true",
+        None => false,
+    }
+}
+
 fn init_from(alloc: Global, matches: &ArgMatches<'_>) -> Result<Option<Job>, AllocError>
     ensures { IfOk result (λ r. r ≡ init_job (rows_of (found_of matches.now))) }
 {
@@ -53,8 +63,9 @@ fn import_from(alloc: Global, matches: &ArgMatches<'_>) -> Result<Option<Job>, A
 {
     let book = word_of(alloc, matches, "book")?;
     let input = word_of(alloc, matches, "INPUT")?;
+    let whole = flag_of(matches, "whole");
     match (book, input) {
-        (Some(book), Some(input)) => Ok(Some(Job::Import { book, input })),
+        (Some(book), Some(input)) => Ok(Some(Job::Import { book, input, whole })),
         _ => Ok(None),
     }
 }
@@ -107,6 +118,7 @@ fn by_named(word: &str) -> Option<By>
         "whole" => Some(By::Whole),
         "feeder" => Some(By::Feeder),
         "month" => Some(By::Month),
+        "day" => Some(By::Day),
         "cause" => Some(By::Cause),
         "section" => Some(By::Section),
         _ => None,

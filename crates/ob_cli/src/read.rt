@@ -48,7 +48,7 @@ impl From<AllocError> for WrongWords {
 }
 
 // The only words that `clap` matches and that name no job.
-const UNNAMED: &str = "error: --by has to be one of: whole, feeder, month, cause, section\n";
+const UNNAMED: &str = "error: --by has to be one of: whole, feeder, month, day, cause, section\n";
 
 fn reason_of(alloc: Global, error: &Error) -> WrongWords
     ensures { IsReasonOf (kind_of error.now) result }

@@ -5,7 +5,7 @@
 //! different texts, and that a body text, and no other text, is read back as its command. Promises
 //! that a row is read as its reference and its command, or refused with its leftmost bad column.
 //! Used by `ob_state` and `ob_book`, which apply commands, by the storage crates, which store their
-//! texts, and by `ob_import`, `ob_replies` and `ob_routes`, which read rows and requests.
+//! texts, and by `ob_import`, `ob_http_replies` and `ob_http_routes`, which read rows and requests.
 #![tactic(auto)]
 
 mod body;

@@ -2,7 +2,7 @@
 //!
 //! Keeps the book's rules for CSV: what ends a row, what quoting means and what the header is.
 //! Promises that a reader gives each row of its text once and in order, with every field as it is
-//! in the text. Used by `ob_total`, `ob_import`, `ob_replies`, `ob_routes` and `ob_desk`, which
+//! in the text. Used by `ob_total`, `ob_import`, `ob_http_replies`, `ob_http_routes` and `ob_desk`, which
 //! read CSV through this crate instead of the `csv` crate.
 #![tactic(auto)]
 

@@ -11,10 +11,10 @@ use Rattle.ob_state.specs.State.{BookState}
 use Rattle.ob_book.specs.Acts.{ActState}
 use Rattle.ob_store.specs.Calls.{IfHeld}
 use Rattle.ob_store.specs.Keepers.{Ghosts, KeeperValue}
-use Rattle.ob_requests.specs.Message.{Message}
-use Rattle.ob_routes.specs.Answers.{Answer, answer_text, bookless}
-use Rattle.ob_routes.specs.Answering.{Answered, IsAnswerFault, Unopened, text_bytes}
-use Rattle.ob_routes.specs.declared.reply.ReplyText.{ReplyText}
+use Rattle.ob_http_requests.specs.Message.{Message}
+use Rattle.ob_http_routes.specs.Answers.{Answer, answer_text, bookless}
+use Rattle.ob_http_routes.specs.Answering.{Answered, IsAnswerFault, Unopened, text_bytes}
+use Rattle.ob_http_routes.specs.declared.reply.ReplyText.{ReplyText}
 use Rattle.ob_desk.specs.Exchanges.{AnswersAt, unavailable_text}
 use Rattle.ob_desk.specs.Serving.{IsWritten}
 use Rattle.ob_desk.specs.Standing.{IsKept, LeftBy, Over, Stands, fault_of}

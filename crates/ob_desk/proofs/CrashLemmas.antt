@@ -12,15 +12,15 @@ use Rattle.ob_store.specs.Keepers.{Ghosts, KeeperValue, StoresEither, Ties}
 use Rattle.ob_store.proofs.KeeperLaws.{either_left, stored_left}
 use Rattle.ob_csv.specs.Rows.{Fields, rows_of}
 use Rattle.ob_import.specs.Imports.{Import, ImportsBody, after_header}
-use Rattle.ob_requests.specs.Message.{Message, path_of}
-use Rattle.ob_requests.specs.Stream.{ends}
-use Rattle.ob_requests.specs.declared.framing.Method.{Method}
-use Rattle.ob_requests.specs.declared.framing.Method.TheVariants as methods
-use Rattle.ob_routes.specs.Answers.{Answer, RouteAnswers}
-use Rattle.ob_routes.specs.Answering.{RouteAnswered, StandsLost, StandsShort}
-use Rattle.ob_routes.specs.Routes.{route_of}
-use Rattle.ob_routes.specs.declared.routes.Route.{Route}
-use Rattle.ob_routes.specs.declared.routes.Route.TheVariants as routes
+use Rattle.ob_http_requests.specs.Message.{Message, path_of}
+use Rattle.ob_http_requests.specs.Stream.{ends}
+use Rattle.ob_http_requests.specs.declared.framing.Method.{Method}
+use Rattle.ob_http_requests.specs.declared.framing.Method.TheVariants as methods
+use Rattle.ob_http_routes.specs.Answers.{Answer, RouteAnswers}
+use Rattle.ob_http_routes.specs.Answering.{RouteAnswered, StandsLost, StandsShort}
+use Rattle.ob_http_routes.specs.Routes.{route_of}
+use Rattle.ob_http_routes.specs.declared.routes.Route.{Route}
+use Rattle.ob_http_routes.specs.declared.routes.Route.TheVariants as routes
 use Rattle.ob_desk.specs.Crashes.{IsActed, IsLeft, KeepsInWork, Outlasts}
 use Rattle.ob_desk.specs.Exchanges.{AnswersAt, Replies}
 use Rattle.ob_desk.specs.Serving.{Breaks, BreaksAnswer, BreaksReply, Fails, Serves}

@@ -1,10 +1,10 @@
 -- Requests are answered by one text.
 use Rattle.std.proofs.Common.{◌≡◌, ℕ, ◌-◌, Bool, List, [], ◌∷◌, ◌++◌, Option, None, Some, sym, ap, subst, ◌∙◌}
 use Rattle.ob_book.specs.Acts.{ActState}
-use Rattle.ob_requests.specs.Continue.{interim_text}
-use Rattle.ob_requests.specs.Message.{Message}
-use Rattle.ob_requests.specs.Stream.{ends}
-use Rattle.ob_routes.specs.Answers.{Answer, RequestsAreAnsweredOneThing, answer_text}
+use Rattle.ob_http_requests.specs.Continue.{interim_text}
+use Rattle.ob_http_requests.specs.Message.{Message}
+use Rattle.ob_http_requests.specs.Stream.{ends}
+use Rattle.ob_http_routes.specs.Answers.{Answer, RequestsAreAnsweredOneThing, answer_text}
 use Rattle.ob_desk.specs.Exchanges.{AnswersAt, Replies}
 use Rattle.ob_desk.specs.Laws.{RepliesAreOneThing}
 

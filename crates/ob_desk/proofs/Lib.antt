@@ -8,3 +8,4 @@ pub mod RunLemmas
 pub mod StandLemmas
 pub mod TurnLemmas
 pub mod WriteLemmas
+pub mod FaultLemmas

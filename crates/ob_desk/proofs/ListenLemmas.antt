@@ -28,7 +28,7 @@ same-end : (x y : Unserved) → Some x ≡ Some y → x ≡ y
 same-end x y e = cc
 
 -- what ends the desk is one of two
-end-is : (fault : Fault) (end : Unserved) → desk_end fault ≡ Some end
+pub end-is : (fault : Fault) (end : Unserved) → desk_end fault ≡ Some end
     → ((fault ≡ Store) × (end ≡ unserved.Store)) ⊎ ((fault ≡ Reopen) × (end ≡ unserved.Reopen))
 end-is OutOfMemory end e = absurd (none-is-some e)
 end-is Store end e = inl (refl, sym (same-end unserved.Store end e))

@@ -1,9 +1,9 @@
 -- The replies to requests, one reply more.
 use Rattle.std.proofs.Common.{◌≡◌, ℕ, ◌-◌, List, [], ◌∷◌, ◌++◌, length, Option, refl, sym, ap, subst, ◌∙◌, append_assoc, append-nil, arith}
 use Rattle.ob_book.specs.Acts.{ActState}
-use Rattle.ob_requests.specs.Continue.{interim_text}
-use Rattle.ob_requests.specs.Message.{Message}
-use Rattle.ob_requests.specs.Stream.{ends}
+use Rattle.ob_http_requests.specs.Continue.{interim_text}
+use Rattle.ob_http_requests.specs.Message.{Message}
+use Rattle.ob_http_requests.specs.Stream.{ends}
 use Rattle.ob_desk.specs.Exchanges.{AnswersAt, Replies}
 
 pub replies-then : (allowed : ℕ) (x y z : Option ActState) (ms : List Message) (text reply : List ℕ) (m : Message)

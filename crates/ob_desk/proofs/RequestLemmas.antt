@@ -2,10 +2,10 @@
 use Rattle.std.proofs.Common.{◌≡◌, ℕ, ◌+◌, ◌-◌, ◌<◌, Bool, true, false, List, [], ◌∷◌, ◌++◌, length, Option, None, Some, IfSome, MatchBool, refl, sym, ap, subst, ◌∙◌, arith}
 use Rattle.std.specs.Prelude.{◌==◌, ◌||◌}
 use Rattle.std.proofs.lemmas.Bool.Decides.{nat_tests}
-use Rattle.ob_requests.specs.Message.{Message, ReadsMessage, ReadsKnown}
-use Rattle.ob_requests.specs.Stream.{After, AfterKnown, EndsWith, Requests, ends}
-use Rattle.ob_requests.specs.Unread.{unread}
-use Rattle.ob_requests.specs.declared.framing.HeadRefusal.{HeadRefusal}
+use Rattle.ob_http_requests.specs.Message.{Message, ReadsMessage, ReadsKnown}
+use Rattle.ob_http_requests.specs.Stream.{After, AfterKnown, EndsWith, Requests, ends}
+use Rattle.ob_http_requests.specs.Unread.{unread}
+use Rattle.ob_http_requests.specs.declared.framing.HeadRefusal.{HeadRefusal}
 
 match-true : (b : Bool) (P Q : Type 0) → b ≡ true → P → MatchBool b P Q
 match-true b P Q e p = subst (λ t. MatchBool t P Q) (sym e) p

@@ -9,11 +9,11 @@ use Rattle.ob_stream.specs.declared.watched.Watched.{Watched}
 use Rattle.ob_book.specs.Acts.{ActState}
 use Rattle.ob_store.specs.Calls.{WasClean}
 use Rattle.ob_store.specs.Keepers.{Ghosts, KeeperValue}
-use Rattle.ob_requests.specs.Continue.{interim_text}
-use Rattle.ob_requests.specs.Message.{Message}
-use Rattle.ob_requests.specs.Stream.{AfterKnown, ends}
-use Rattle.ob_requests.specs.Unread.{unread}
-use Rattle.ob_requests.specs.declared.framing.HeadRefusal.{HeadRefusal}
+use Rattle.ob_http_requests.specs.Continue.{interim_text}
+use Rattle.ob_http_requests.specs.Message.{Message}
+use Rattle.ob_http_requests.specs.Stream.{AfterKnown, ends}
+use Rattle.ob_http_requests.specs.Unread.{unread}
+use Rattle.ob_http_requests.specs.declared.framing.HeadRefusal.{HeadRefusal}
 use Rattle.ob_desk.specs.Crashes.{IsActed}
 use Rattle.ob_desk.specs.Exchanges.{AnswersAt, Replies, refusal_text}
 use Rattle.ob_desk.specs.Serving.{Breaks, Fails, HasCause, Serves}

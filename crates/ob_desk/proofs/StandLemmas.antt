@@ -7,7 +7,7 @@ use Rattle.ob_state.specs.State.{BookState}
 use Rattle.ob_book.specs.Acts.{ActState}
 use Rattle.ob_store.specs.Calls.{WasClean}
 use Rattle.ob_store.specs.Keepers.{Ghosts, KeeperValue}
-use Rattle.ob_requests.specs.Message.{Message}
+use Rattle.ob_http_requests.specs.Message.{Message}
 use Rattle.ob_desk.specs.Exchanges.{Replies}
 use Rattle.ob_desk.specs.Standing.{IsKept, Over, Stands, fault_of}
 

@@ -8,14 +8,14 @@ use Rattle.ob_stream.specs.Watching.{HasJustFailed}
 use Rattle.ob_stream.specs.declared.watched.Watched.{Watched}
 use Rattle.ob_book.specs.Acts.{ActState}
 use Rattle.ob_store.specs.Keepers.{Ghosts, KeeperValue}
-use Rattle.ob_requests.specs.Continue.{interim_text}
-use Rattle.ob_requests.specs.Head.{IsCutHead}
-use Rattle.ob_requests.specs.Message.{Message, IsCut, IsCutBody, IsRefused, ReadsKnown}
-use Rattle.ob_requests.specs.Reading.{Reads, Stops, WritesInTime, WritesInterim}
-use Rattle.ob_requests.specs.Stream.{ends}
-use Rattle.ob_requests.specs.declared.framing.Framing.{Framing}
-use Rattle.ob_requests.specs.declared.framing.HeadRefusal.{HeadRefusal}
-use Rattle.ob_requests.specs.declared.request.Next.TheVariants as nexts
+use Rattle.ob_http_requests.specs.Continue.{interim_text}
+use Rattle.ob_http_requests.specs.Head.{IsCutHead}
+use Rattle.ob_http_requests.specs.Message.{Message, IsCut, IsCutBody, IsRefused, ReadsKnown}
+use Rattle.ob_http_requests.specs.Reading.{Reads, Stops, WritesInTime, WritesInterim}
+use Rattle.ob_http_requests.specs.Stream.{ends}
+use Rattle.ob_http_requests.specs.declared.framing.Framing.{Framing}
+use Rattle.ob_http_requests.specs.declared.framing.HeadRefusal.{HeadRefusal}
+use Rattle.ob_http_requests.specs.declared.request.Next.TheVariants as nexts
 use Rattle.ob_desk.specs.Exchanges.{AnswersAt, refusal_text, unavailable_text}
 use Rattle.ob_desk.specs.Serving.{BreaksAnswer, IsWritten, WritesHead, WritesSoFar}
 use Rattle.ob_desk.specs.Standing.{LeftBy, Over, Stands}

@@ -1,14 +1,14 @@
 -- What is written for the requests of a stream, one after the other.
 use Rattle.std.specs.Prelude.{◌≡◌, ℕ, ◌-◌, Bool, true, List, [], ◌∷◌, ◌++◌, Option, None, Some}
 use Rattle.ob_book.specs.Acts.{ActState}
-use Rattle.ob_requests.specs.Continue.{interim_text}
-use Rattle.ob_requests.specs.Message.{Message}
-use Rattle.ob_requests.specs.Stream.{ends}
-use Rattle.ob_requests.specs.declared.framing.HeadRefusal.{HeadRefusal}
-use Rattle.ob_requests.specs.declared.framing.HeadRefusal.TheVariants as refusals
-use Rattle.ob_replies.specs.declared.status.Status.{Status}
-use Rattle.ob_replies.specs.declared.status.Status.TheVariants as statuses
-use Rattle.ob_routes.specs.Answers.{Answer, Answers, answer_text, bookless, empty}
+use Rattle.ob_http_requests.specs.Continue.{interim_text}
+use Rattle.ob_http_requests.specs.Message.{Message}
+use Rattle.ob_http_requests.specs.Stream.{ends}
+use Rattle.ob_http_requests.specs.declared.framing.HeadRefusal.{HeadRefusal}
+use Rattle.ob_http_requests.specs.declared.framing.HeadRefusal.TheVariants as refusals
+use Rattle.ob_http_replies.specs.declared.status.Status.{Status}
+use Rattle.ob_http_replies.specs.declared.status.Status.TheVariants as statuses
+use Rattle.ob_http_routes.specs.Answers.{Answer, Answers, answer_text, bookless, empty}
 
 -- The answer to a request over a book, where there is one: the bytes of its reply, which tell whether the connection ends, and
 -- the book after it. Without a book only what needs none is answered.

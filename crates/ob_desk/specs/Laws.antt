@@ -1,7 +1,7 @@
 -- What is written for requests is determined.
 use Rattle.std.specs.Prelude.{◌≡◌, ℕ, List, Option}
 use Rattle.ob_book.specs.Acts.{ActState}
-use Rattle.ob_requests.specs.Message.{Message}
+use Rattle.ob_http_requests.specs.Message.{Message}
 use Rattle.ob_desk.specs.Exchanges.{Replies}
 
 -- requests are answered by one text, which leaves one book

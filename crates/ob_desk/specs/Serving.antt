@@ -7,13 +7,13 @@ use Rattle.ob_stream.specs.Watching.{HasJustFailed}
 use Rattle.ob_stream.specs.declared.watched.Watched.{Watched}
 use Rattle.ob_book.specs.Acts.{ActState}
 use Rattle.ob_store.specs.Keepers.{Ghosts, KeeperValue}
-use Rattle.ob_requests.specs.Continue.{interim_text}
-use Rattle.ob_requests.specs.Head.{IsCutHead}
-use Rattle.ob_requests.specs.Message.{Message, IsCut, IsCutBody, IsRefused, ReadsKnown}
-use Rattle.ob_requests.specs.Reading.{AfterHead, StopsInHead}
-use Rattle.ob_requests.specs.Stream.{AfterKnown, Requests, ends}
-use Rattle.ob_requests.specs.declared.framing.Framing.{Framing}
-use Rattle.ob_requests.specs.declared.framing.HeadRefusal.{HeadRefusal}
+use Rattle.ob_http_requests.specs.Continue.{interim_text}
+use Rattle.ob_http_requests.specs.Head.{IsCutHead}
+use Rattle.ob_http_requests.specs.Message.{Message, IsCut, IsCutBody, IsRefused, ReadsKnown}
+use Rattle.ob_http_requests.specs.Reading.{AfterHead, StopsInHead}
+use Rattle.ob_http_requests.specs.Stream.{AfterKnown, Requests, ends}
+use Rattle.ob_http_requests.specs.declared.framing.Framing.{Framing}
+use Rattle.ob_http_requests.specs.declared.framing.HeadRefusal.{HeadRefusal}
 use Rattle.ob_desk.specs.Crashes.{IsActed, Outlasts}
 use Rattle.ob_desk.specs.Exchanges.{AnswersAt, Replies, ending_count, ending_text, refusal_text, unavailable_text}
 use Rattle.ob_desk.specs.Standing.{Over, Stands, LeftBy}

@@ -5,9 +5,9 @@ use Rattle.ob_base.specs.declared.stop.Fault.TheVariants.{Reopen, Store}
 use Rattle.ob_book.specs.Acts.{ActState}
 use Rattle.ob_store.specs.Calls.{WasClean}
 use Rattle.ob_store.specs.Keepers.{Ghosts, IsClean, KeeperValue, Ties}
-use Rattle.ob_requests.specs.Message.{Message}
-use Rattle.ob_routes.specs.Answers.{bookless}
-use Rattle.ob_routes.specs.Answering.{Answered}
+use Rattle.ob_http_requests.specs.Message.{Message}
+use Rattle.ob_http_routes.specs.Answers.{bookless}
+use Rattle.ob_http_routes.specs.Answering.{Answered}
 
 -- the fault of a call, where there is one
 abbrev pub fault_of : {A : Type 0} → Result A Fault → Option Fault

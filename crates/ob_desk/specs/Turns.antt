@@ -8,10 +8,10 @@ use Rattle.ob_stream.specs.Watching.{HasJustFailed}
 use Rattle.ob_stream.specs.declared.watched.Watched.{Watched}
 use Rattle.ob_book.specs.Acts.{ActState}
 use Rattle.ob_store.specs.Keepers.{Ghosts, KeeperValue}
-use Rattle.ob_requests.specs.Continue.{interim_text}
-use Rattle.ob_requests.specs.Message.{Message, IsRefused, ReadsKnown}
-use Rattle.ob_requests.specs.Stream.{ends}
-use Rattle.ob_requests.specs.declared.framing.HeadRefusal.{HeadRefusal}
+use Rattle.ob_http_requests.specs.Continue.{interim_text}
+use Rattle.ob_http_requests.specs.Message.{Message, IsRefused, ReadsKnown}
+use Rattle.ob_http_requests.specs.Stream.{ends}
+use Rattle.ob_http_requests.specs.declared.framing.HeadRefusal.{HeadRefusal}
 use Rattle.ob_desk.specs.Exchanges.{AnswersAt, refusal_text, unavailable_text}
 use Rattle.ob_desk.specs.Serving.{Breaks, HasCause, IsWritten}
 use Rattle.ob_desk.specs.Standing.{Over, Stands, LeftBy}

@@ -1,6 +1,6 @@
 //! Serves the streams of a listener, one after another.
 ghost use Rattle.std.specs.Prelude.{◌≡◌, ◌↔◌, true, false, None, Err};
-ghost use Rattle.ob_store.specs.Calls.{IfHeld};
+ghost use Rattle.ob_store.specs.Calls.{IfHeld, TellsFaults};
 ghost use Rattle.ob_desk.specs.Crashes.{IsLeft};
 ghost use Rattle.ob_desk.specs.Listening.{LeavesKeeper, ServesStreams, desk_end, has_failed, streams_left, unserved_fault};
 ghost use Rattle.ob_desk.specs.Standing.{IsKept, fault_of};
@@ -69,6 +69,9 @@ pub fn run_serve<S: Alter, T: Timeline, L: FaultLog>(
         ↔ (result ≡ Err Unserved.Listener) }
     ensures served { ServesStreams S.Store L.tells keeper.old keeper.new log.old log.new
         (streams_left listener.old) (streams_left listener.new) result }
+    // no fault of the store is forgotten, row numbers and the step limit stay, and a store fault has
+    // a cause
+    ensures tells { TellsFaults S.Store keeper.old keeper.new (result ≡ Err Unserved.Store) }
 {
     'serving: while listener.has_more() {
         let Some(stream) = listener.take() else {
@@ -104,6 +107,7 @@ fn serve_connection<S: Alter, T: Timeline>(
     keeper: &mut Keeper<S, T>,
 ) -> Result<Served, Fault>
     ensures kept { IsKept S.Store keeper.old keeper.new (fault_of result) }
+    ensures tells { TellsFaults S.Store keeper.old keeper.new (result ≡ Err Fault.Store) }
     ensures reopen { result ≡ Err Fault.Reopen → keeper.old.book ≡ None }
     ensures left { IfHeld S.Store keeper.old keeper.new
         (λ b. IsLeft S.Store keeper.new b (fault_of result)) }

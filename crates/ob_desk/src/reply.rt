@@ -1,15 +1,16 @@
 //! Replies to one request, or to bytes that are no request.
-ghost use Rattle.std.specs.Prelude.{◌≡◌, IfErr, OnOk};
+ghost use Rattle.std.specs.Prelude.{◌≡◌, Err, IfErr, OnOk};
 ghost use Rattle.ob_stream.specs.Watching.{watched_bytes};
-ghost use Rattle.ob_requests.specs.Reading.{message_of};
+ghost use Rattle.ob_http_requests.specs.Reading.{message_of};
+ghost use Rattle.ob_store.specs.Calls.{TellsFaults};
 ghost use Rattle.ob_desk.specs.Exchanges.{head_status};
 ghost use Rattle.ob_desk.specs.Standing.{IsKept, fault_of};
 ghost use Rattle.ob_desk.specs.Turns.{HasAnswerCause, IsAnswered, IsUnanswered};
 
 use ob_base::Fault;
-use ob_replies::{Status, empty_reply};
-use ob_requests::{HeadRefusal, Request};
-use ob_routes::{Routes, answer};
+use ob_http_replies::{Status, empty_reply};
+use ob_http_requests::{HeadRefusal, Request};
+use ob_http_routes::{Routes, answer};
 use ob_store::{Alter, Keeper};
 use ob_stream::{Retries, Watched, write_text};
 use ob_sweep::Timeline;
@@ -48,6 +49,7 @@ pub(crate) fn reply_to<W: Write, S: Alter, T: Timeline>(
         keeper.new (message_of request.now) ends) }
     ensures cause { IfErr result (HasAnswerCause S.Store writer.new keeper.old) }
     ensures kept { IsKept S.Store keeper.old keeper.new (fault_of result) }
+    ensures tells { TellsFaults S.Store keeper.old keeper.new (result ≡ Err Fault.Store) }
 {
     match answer(alloc, routes, keeper, request, ends) {
         Ok(text) => write_text(writer, retries, text.bytes()),

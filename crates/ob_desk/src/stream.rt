@@ -1,15 +1,15 @@
 //! Serves one stream.
 ghost use Rattle.std.specs.Prelude.{◌≡◌, ◌↔◌, [], None, Err, IsSome, IfErr, IfOk};
 ghost use Rattle.ob_stream.specs.Watching.{watched_bytes};
-ghost use Rattle.ob_store.specs.Calls.{WasClean};
-ghost use Rattle.ob_requests.specs.Unread.{unread};
+ghost use Rattle.ob_store.specs.Calls.{TellsFaults, WasClean};
+ghost use Rattle.ob_http_requests.specs.Unread.{unread};
 ghost use Rattle.ob_desk.specs.Serving.{Fails, Serves};
 ghost use Rattle.ob_desk.specs.Standing.{IsKept, fault_of};
 
 use crate::turn::{Turn, serve_turn};
 use ob_base::Fault;
-use ob_requests::Ahead;
-use ob_routes::Routes;
+use ob_http_requests::Ahead;
+use ob_http_routes::Routes;
 use ob_store::{Alter, Keeper};
 use ob_stream::{Retries, Watched};
 use ob_sweep::Timeline;
@@ -56,6 +56,9 @@ pub fn serve_stream<R: Read, W: Write, S: Alter, T: Timeline>(
     ensures unopened { keeper.old.book ≡ None → keeper.new ≡ keeper.old }
     ensures dropped { IsSome keeper.old.book → (keeper.new.book ≡ None)
         ↔ (result ≡ Err Fault.Store) }
+    // no fault of the store is forgotten, row numbers and the step limit stay, and a store fault has
+    // a cause
+    ensures tells { TellsFaults S.Store keeper.old keeper.new (result ≡ Err Fault.Store) }
 {
     let Ok(routes) = Routes::new(alloc) else {
         return Err(Fault::OutOfMemory);
@@ -81,6 +84,7 @@ fn serve_requests<R: Read, W: Write, S: Alter, T: Timeline>(
         (watched_bytes R.remaining reader.new) (watched_bytes W.contents writer.old)
         (watched_bytes W.contents writer.new) reader.new writer.new keeper.old keeper.new) }
     ensures kept { IsKept S.Store keeper.old keeper.new (fault_of result) }
+    ensures tells { TellsFaults S.Store keeper.old keeper.new (result ≡ Err Fault.Store) }
 {
     let mut retries = Retries::new();
     let mut allowed = MOST_REQUESTS;

@@ -1,17 +1,18 @@
 //! One turn of a stream: reads a request and answers it, or ends the stream.
-ghost use Rattle.std.specs.Prelude.{◌≡◌, IfErr, IfOk};
+ghost use Rattle.std.specs.Prelude.{◌≡◌, Err, IfErr, IfOk};
 ghost use Rattle.ob_stream.specs.Watching.{watched_bytes};
-ghost use Rattle.ob_requests.specs.Reading.{message_of};
-ghost use Rattle.ob_requests.specs.Stream.{ends};
-ghost use Rattle.ob_requests.specs.Unread.{unread};
+ghost use Rattle.ob_store.specs.Calls.{TellsFaults};
+ghost use Rattle.ob_http_requests.specs.Reading.{message_of};
+ghost use Rattle.ob_http_requests.specs.Stream.{ends};
+ghost use Rattle.ob_http_requests.specs.Unread.{unread};
 ghost use Rattle.ob_desk.specs.Standing.{IsKept, fault_of};
 ghost use Rattle.ob_desk.specs.Turns.{TurnFails, TurnIs};
 
 use crate::reply::{head_status, reply_to};
 use ob_base::Fault;
-use ob_replies::empty_reply;
-use ob_requests::{Ahead, Next, Request, read_request};
-use ob_routes::Routes;
+use ob_http_replies::empty_reply;
+use ob_http_requests::{Ahead, Next, Request, read_request};
+use ob_http_routes::Routes;
 use ob_store::{Alter, Keeper};
 use ob_stream::{Retries, Watched, write_text};
 use ob_sweep::Timeline;
@@ -59,6 +60,7 @@ pub(crate) fn serve_turn<R: Read, W: Write, S: Alter, T: Timeline>(
         (watched_bytes R.remaining reader.new) (watched_bytes W.contents writer.old)
         (watched_bytes W.contents writer.new) reader.new writer.new keeper.old keeper.new) }
     ensures kept { IsKept S.Store keeper.old keeper.new (fault_of result) }
+    ensures tells { TellsFaults S.Store keeper.old keeper.new (result ≡ Err Fault.Store) }
 {
     match read_request(alloc, reader, writer, retries, ahead)? {
         Next::End => Ok(Turn::Closed),

@@ -1,6 +1,6 @@
 //! Texts of requests and replies.
 use crate::script::Many;
-use ob_requests::{Method, Request};
+use ob_http_requests::{Method, Request};
 use std::alloc::{AllocError, Global};
 
 /// A request that enters a cause under the reference R1, and the reply of a new book.

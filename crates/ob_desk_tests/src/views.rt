@@ -6,8 +6,8 @@ use crate::script::{Many, lines_are_answered};
 use crate::streams::{WHOLE, Ways};
 use crate::texts::{LAST_NOTHING, UNAVAILABLE, many, request};
 use ob_base::Fault;
-use ob_requests::Method;
-use ob_routes::Routes;
+use ob_http_requests::Method;
+use ob_http_routes::Routes;
 use std::alloc::{AllocError, Global};
 use std::process::Abort;
 

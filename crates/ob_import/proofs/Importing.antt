@@ -17,14 +17,15 @@ use Rattle.ob_csv.specs.Rows.{Fields, TakesRow, rows_of}
 use Rattle.ob_command.specs.Fields.{IsRow}
 use Rattle.ob_book.specs.Acts.{ActState, Referenced, Reply, act, acts, answer, is_accepted, take_on}
 use Rattle.ob_store.specs.Acting.{Acted, IsActStop}
-use Rattle.ob_store.specs.Calls.{IfStored, WasClean}
+use Rattle.ob_store.specs.Calls.{IfHeld, IfStored, TellsFaults, WasClean}
 use Rattle.ob_store.specs.Keepers.{Ghosts, Holds, KeeperValue, StoresEither, Ties}
+use Rattle.ob_store.proofs.Faults.{tells_as, tells_nothing, tells_then}
 use Rattle.ob_state.specs.State.{BookState}
 use Rattle.ob_record.specs.Reached.{ReachedCounts}
 use Rattle.ob_import.specs.Acting.{Adds, AddsRow}
 use Rattle.ob_import.specs.Imports.{AreAnswered, EndsAt, Import, ImportsBody, ImportsRows, IsRefused, Say, Says, Stops, Taken, after_header}
 use Rattle.ob_import.specs.Gathering.{IsWithin, gathered_rows, is_over}
-use Rattle.ob_import.specs.Reports.{AreRows, Breaks, HasCause, HoldsAll, HoldsAllOf, HoldsFirst, HoldsWholeRows, Imported, IsNext, Leaves, LeavesOf, Runs, import_as, no_book}
+use Rattle.ob_import.specs.Reports.{AreRows, Breaks, HasCause, HoldsAll, HoldsAllOf, HoldsFirst, HoldsWholeRows, Imported, IsNext, IsStoreFault, Leaves, LeavesOf, Runs, import_as, no_book}
 use Rattle.ob_import.specs.declared.report.ImportReport.{ImportReport}
 use Rattle.ob_import.specs.declared.report.ImportFault.{ImportFault}
 
@@ -159,6 +160,26 @@ store_not_input e = cc
 no_book_there : {X : Type 0} (o : Option X) → IsSome o → o ≡ None → ⊥
 no_book_there o is none = true≢false (sym is ∙ ap is_some none)
 
+-- a fault that isn't the store's
+pub other_fault : (fault : Fault) (e : ImportFault) → e.fault ≡ fault → fault ≢ faults.Store → IsStoreFault (Err e) → ⊥
+other_fault fault e is other store = other (sym is ∙ store)
+
+pub no_book_fault : (e : ImportFault) → Err e ≡ no_book → IsStoreFault (Err e) → ⊥
+no_book_fault e is store = let none : faults.Reopen ≡ faults.Store = subst IsStoreFault is store in cc
+
+pub memory_not_store : faults.OutOfMemory ≡ faults.Store → ⊥
+memory_not_store e = cc
+
+-- an answer isn't the store's fault, nor is a refusal; and a fault is one whatever it was to be
+pub answer_not_store : {X Y : Type 0} (x : X) → ◌≡◌ {A = Result X Stop} (Ok x) (Err (stops.Fault faults.Store)) → Y
+answer_not_store x e = absurd (true≢false (ap is_ok e))
+
+pub refusal_not_store : {X : Type 0} (r : Refusal) → ◌≡◌ {A = Result X Stop} (Err (stops.Refused r)) (Err (stops.Fault faults.Store)) → ⊥
+refusal_not_store r e = cc
+
+pub same_stop : {X Y : Type 0} (stop other : Stop) → ◌≡◌ {A = Result X Stop} (Err stop) (Err other) → ◌≡◌ {A = Result Y Stop} (Err stop) (Err other)
+same_stop stop other e = let same : stop ≡ other = cc in ap Err same
+
 module _ {S : Type 0} (g : Ghosts S) where
   -- a row that was answered said a command
   taken_row : (new : KeeperValue S) (c : ActState) (row : Fields) (is_new : Bool) → AddsRow g new c row (Ok is_new)
@@ -188,6 +209,7 @@ module _ {S : Type 0} (g : Ghosts S) where
     pub is_there : IsSome now.book
     pub next : added + again + 1 ≡ number
     pub begun : IfStored g old now (λ b. (c : ActState) × (done : List Fields) × SplitAs known left done × Taken b c done added again × Holds g now c)
+    pub tells : TellsFaults g old now ⊥
 
   pub so_far_none : (old : KeeperValue S) (known : Option (List Fields)) → IsSome old.book → SoFar old old known known 0 0 1
   so_far_none old known is = record {
@@ -195,16 +217,30 @@ module _ {S : Type 0} (g : Ghosts S) where
     is_there = is;
     next = refl;
     begun = λ clean b ties. (b, [], split_init known, taken_none b, (ties, is));
+    tells = tells_nothing g old old ⊥ refl (λ e. e);
   }
 
   module _ (old now : KeeperValue S) (known left : Option (List Fields)) (added again number : ℕ) (it : SoFar old now known left added again number) where
+    -- the book that stands is that of some commands more
+    stands_more : IfHeld g old now (λ b. (done : List Referenced) × Ties g now (acts b done) × IsSome now.book)
+    stands_more clean b ties some = let was = it.begun clean b ties in (was.3.commands, subst (Ties g now) was.3.state was.4.0, was.4.1)
+
+    -- the import ends here, and no fault of the store is reported
+    pub ended_tells : (F : Type 0) → (F → ⊥) → TellsFaults g old now F
+    ended_tells F never = tells_as g old now ⊥ F never it.tells
+
+    -- it ends after the next row
+    pub then_tells : (new : KeeperValue S) (G F : Type 0) → (F → G) → TellsFaults g now new G → TellsFaults g old new F
+    then_tells new G F reads tells = tells_as g old new G F reads (tells_then g old now new ⊥ G it.tells stands_more tells)
+
     module _ (new : KeeperValue S) (after : Option (List Fields)) (row : Fields) (takes : TakesRow left after true row) (within : number ≤ 1_000_000)
         (clean : WasClean g now new) where
       -- a row that was taken
       pub so_far_more : (is_new : Bool) (added2 again2 : ℕ) → (new.book ≡ None) ↔ (◌≡◌ {A = Result Bool Stop} (Ok is_new) (Err (stops.Fault faults.Store)))
+          → TellsFaults g now new (◌≡◌ {A = Result Bool Stop} (Ok is_new) (Err (stops.Fault faults.Store)))
           → IfStored g now new (λ b. AddsRow g new b row (Ok is_new))
           → added2 ≡ added + cond is_new 1 0 → again2 ≡ again + cond is_new 0 1 → SoFar old new known after added2 again2 (number + 1)
-      so_far_more is_new added2 again2 dropped acted more other =
+      so_far_more is_new added2 again2 dropped tells acted more other =
           let both : added2 + again2 ≡ added + again + 1 = elim is_new as (λ t. added2 ≡ added + cond t 1 0 → again2 ≡ again + cond t 0 1 → added2 + again2 ≡ added + again + 1) [
             | true ↦ λ e f. omega (arith, e, f)
             | false ↦ λ e f. omega (arith, e, f)
@@ -226,6 +262,7 @@ module _ {S : Type 0} (g : Ghosts S) where
                   taken_more b was.0 was.1 added again added2 again2 row one.0 was.3 one.1 one.2 few (more ∙ ap (λ t. added + cond t 1 0) one.3) both,
                   one.4,
                 );
+            tells = then_tells new (◌≡◌ {A = Result Bool Stop} (Ok is_new) (Err (stops.Fault faults.Store))) ⊥ (λ e. absurd e) tells;
           }
 
       -- the row stops the import

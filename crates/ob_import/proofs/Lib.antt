@@ -1,2 +1,5 @@
 pub mod ImportLaws
 pub mod Importing
+pub mod Lines
+pub mod Wholly
+pub mod Reading

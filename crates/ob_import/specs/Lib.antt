@@ -2,3 +2,4 @@ pub mod Imports
 pub mod Acting
 pub mod Reports
 pub mod Gathering
+pub mod Whole

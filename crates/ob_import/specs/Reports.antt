@@ -9,7 +9,7 @@ use Rattle.ob_stream.specs.Streams.{Passes}
 use Rattle.ob_stream.specs.Watching.{HasJustFailed, watched_bytes}
 use Rattle.ob_stream.specs.declared.watched.Watched.{Watched}
 use Rattle.ob_book.specs.Acts.{ActState, Referenced, act}
-use Rattle.ob_store.specs.Calls.{IfHeld, IfStored, WasClean}
+use Rattle.ob_store.specs.Calls.{IfHeld, IfStored, TellsFaults, WasClean}
 use Rattle.ob_store.specs.Keepers.{Ghosts, Holds, KeeperValue, StoresEither}
 use Rattle.ob_import.specs.Imports.{Begins, Import, ImportsBody, Says, Taken, after_header}
 use Rattle.ob_import.specs.Gathering.{IsWithin}
@@ -106,6 +106,7 @@ module _ {S : Type 0} (g : Ghosts S) where
     pub broken : IfHeld g old new
         (λ b. IfErr done (λ e. e.fault ≡ Input → HoldsWholeRows new b (watched_bytes remaining was) (watched_bytes remaining is) e.added e.again))
     pub bound : IfOk done (λ r. r.stopped ≡ None → IsWithin (watched_bytes remaining was) 268435456)
+    pub tells : TellsFaults g old new (IsStoreFault done)
 
   -- all that an import of a book promises, of rows of which these are after the header and that are the whole text or not
   pub record Runs (body : List Fields → Option (List Fields)) (old new : KeeperValue S) (known : Option (List Fields)) (whole : Bool)

@@ -2,7 +2,7 @@
 ghost use Rattle.std.specs.Prelude.{◌≡◌, ◌↔◌, None, Err, IsSome, IfSome, IfErr};
 ghost use Rattle.ob_command.specs.Fields.{IsRow};
 ghost use Rattle.ob_store.specs.Acting.{IsActStop};
-ghost use Rattle.ob_store.specs.Calls.{IfStored, WasClean};
+ghost use Rattle.ob_store.specs.Calls.{IfStored, TellsFaults, WasClean};
 ghost use Rattle.ob_import.specs.Acting.{AddsRow};
 
 use ob_base::{Fault, Ref, Refusal, Stop};
@@ -24,6 +24,8 @@ pub(crate) fn act_row<S: Alter, T: Timeline>(
     ensures dropped { (keeper.new.book ≡ None) ↔ (result ≡ Err (Stop.Fault Fault.Store)) }
     ensures acted { IfStored S.Store keeper.old keeper.new
         (λ b. AddsRow S.Store keeper.new b row.now result) }
+    ensures tells { TellsFaults S.Store keeper.old keeper.new
+        (result ≡ Err (Stop.Fault Fault.Store)) }
 {
     reached_law();
     let said = match command_in(row) {
@@ -36,7 +38,7 @@ pub(crate) fn act_row<S: Alter, T: Timeline>(
 }
 
 /// Reads the reference and the command in a row.
-fn command_in(row: &Row) -> Result<(Ref, Command), Refusal>
+pub(crate) fn command_in(row: &Row) -> Result<(Ref, Command), Refusal>
     ensures { IsRow row.now result }
 {
     match row.fields() {

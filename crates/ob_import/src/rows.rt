@@ -3,7 +3,8 @@ ghost use Rattle.std.specs.Prelude.{◌≡◌, ◌≢◌, true, false, [], Some,
 ghost use Rattle.ob_csv.specs.Rows.{TakesRow};
 ghost use Rattle.ob_csv.specs.RowReading.{rows_left};
 ghost use Rattle.ob_import.specs.Imports.{after_header};
-ghost use Rattle.ob_import.specs.Reports.{HasCause, Runs};
+ghost use Rattle.ob_store.specs.Calls.{TellsFaults};
+ghost use Rattle.ob_import.specs.Reports.{HasCause, IsStoreFault, Runs};
 
 use crate::acting::act_row;
 use crate::report::{ImportFault, ImportReport};
@@ -27,6 +28,7 @@ pub(crate) fn import_rows<R: Read, S: Alter, T: Timeline, P: Progress>(
     ensures runs { Runs S.Store after_header keeper.old keeper.new (rows_left R.remaining rows.old)
         whole result }
     ensures some { whole ≡ false → IfOk result (λ _. rows_left R.remaining rows.old ≢ Some []) }
+    ensures tells { TellsFaults S.Store keeper.old keeper.new (IsStoreFault result) }
 {
     let mut tally = Tally { added: 0, again: 0 };
     let mut row = Row::new(alloc);
@@ -61,7 +63,11 @@ pub(crate) fn import_rows<R: Read, S: Alter, T: Timeline, P: Progress>(
 
 /// Reads the next row into `row`, and returns whether there was one. `Fault::Input` after the last
 /// row if the text isn't whole.
-fn take_row<R: Read>(rows: &mut RowReader<R>, row: &mut Row, whole: bool) -> Result<bool, Fault>
+pub(crate) fn take_row<R: Read>(
+    rows: &mut RowReader<R>,
+    row: &mut Row,
+    whole: bool,
+) -> Result<bool, Fault>
     ensures takes { IfOk result (λ found. TakesRow (rows_left R.remaining rows.old)
         (rows_left R.remaining rows.new) found row.new) }
     ensures ended { result ≡ Ok false → whole ≡ true }

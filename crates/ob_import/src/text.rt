@@ -1,7 +1,7 @@
 //! The imports: of a text, and of a reader's content.
 ghost use Rattle.std.specs.Prelude.{◌≡◌, ◌↔◌, None, Some, Err, IsSome, IfErr};
 ghost use Rattle.ob_csv.specs.Rows.{rows_of};
-ghost use Rattle.ob_store.specs.Calls.{IfHeld, WasClean};
+ghost use Rattle.ob_store.specs.Calls.{IfHeld, TellsFaults, WasClean};
 ghost use Rattle.ob_import.specs.Imports.{ImportedAgain, ImportsMakeOneThing};
 ghost use Rattle.ob_import.specs.Reports.{HasCause, ImportOf, Imported, IsStoreFault, no_book};
 
@@ -41,6 +41,9 @@ pub fn import_text<S: Alter, T: Timeline>(
     ensures clean { WasClean S.Store keeper.old keeper.new }
     ensures dropped { IsSome keeper.old.book → (keeper.new.book ≡ None) ↔ IsStoreFault result }
     ensures cause { IsSome keeper.old.book → IfErr result (λ e. HasCause e.fault ⊥) }
+    // no fault of the store is forgotten, row numbers and the step limit stay, and a store fault has
+    // a cause
+    ensures tells { TellsFaults S.Store keeper.old keeper.new (IsStoreFault result) }
 {
     if keeper.book().is_none() {
         return Err(fault_without_book());
@@ -103,12 +106,12 @@ pub fn import_with_progress<R: Read, S: Alter, T: Timeline, P: Progress>(
 }
 
 /// The number of line ends in a text.
-fn lines_of(text: &[u8]) -> u64 {
+pub(crate) fn lines_of(text: &[u8]) -> u64 {
     text.iter().filter(|byte| **byte == b'\n').count() as u64
 }
 
 /// The fault of an import without a book.
-fn fault_without_book() -> ImportFault
+pub(crate) fn fault_without_book() -> ImportFault
     ensures { Err result ≡ no_book }
 {
     ImportFault {

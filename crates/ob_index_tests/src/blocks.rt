@@ -1,5 +1,4 @@
-//! Tests of a section with 100,000 customers in three blocks, against the sum over its customers
-//! one by one.
+//! Tests of a section with 100,000 customers in three blocks.
 use crate::moved::{period_of, sum_of};
 use ob_cust::{Customer, Roll};
 use ob_net::Second;
@@ -35,17 +34,6 @@ fn three_blocks(alloc: Global) -> Result<Roll, Fail> {
     Ok(roll)
 }
 
-// The seconds of service in an outage interval, summed over the customers one by one.
-fn plain_sum(customers: &[Customer], run: &Run) -> u64 {
-    let mut sum: u64 = 0;
-    for customer in customers {
-        let until = customer.until.unwrap_or(run.until).min(run.until);
-        let seconds = until.saturating_sub(customer.since.max(run.since));
-        sum = sum.saturating_add(seconds);
-    }
-    sum
-}
-
 // The amounts of an outage interval in 1970-01-02, with cause 3 and feeder 7.
 fn amounts_in(alloc: Global, run: &Run, roll: &Roll) -> Result<Vec<Moved>, Fail> {
     let day = period_of(alloc, b"1970-01-02", 1, b"UTC0")?;
@@ -56,7 +44,8 @@ fn amounts_in(alloc: Global, run: &Run, roll: &Roll) -> Result<Vec<Moved>, Fail>
     Ok(rows)
 }
 
-// An outage interval across the end of a block and the beginning of another.
+// An outage interval across the end of a block and the beginning of another: 30,000 customers for
+// 301 seconds, 35,000 for 100, and 35,000 for 101.
 const ACROSS: Run = Run {
     section: 1,
     since: 129_500,
@@ -69,7 +58,6 @@ fn a_run_across_the_end_of_a_block(rt: HostRuntime) -> Result<(), Fail> {
     let roll = three_blocks(rt.alloc())?;
     let rows = amounts_in(rt.alloc(), &ACROSS, &roll)?;
     assert!(rt; roll.blocks(1)?.len() == 3);
-    assert!(rt; plain_sum(roll.customers(), &ACROSS) == 16_065_000);
     for (dim, key) in [(Dim::Cause, 3), (Dim::Feeder, 7), (Dim::Day, 0)] {
         assert!(rt; sum_of(&rows, dim, key)? == 16_065_000);
     }

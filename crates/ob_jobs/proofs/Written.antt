@@ -14,7 +14,7 @@ use Rattle.ob_stream.specs.Watching.{HasJustFailed, watched_bytes}
 use Rattle.ob_stream.specs.declared.watched.Watched.{Watched}
 use Rattle.ob_state.specs.State.{BookState}
 use Rattle.ob_book.specs.Acts.{ActState}
-use Rattle.ob_tables.specs.Steps.{IsStoreFault}
+use Rattle.ob_sql_rows.specs.Steps.{IsStoreFault}
 use Rattle.ob_store.specs.Keepers.{Ghosts, KeeperValue, Ties}
 use Rattle.ob_store.specs.Keeping.{IsBookAfter}
 use Rattle.ob_store.specs.MovingOut.{IsBookAfterMoves, Numbered, Takes, TakesAll, FailsAmong, TakesFront, HandsOver, MovesOut, StoreFails, all_moves}

@@ -9,7 +9,7 @@ use Rattle.ob_cli.specs.declared.status.Unfinished.{Unfinished}
 use Rattle.ob_selections.specs.declared.selection.By.{By}
 use Rattle.ob_jobs.specs.After.{TellsAfter}
 use Rattle.ob_jobs.specs.Endings.{audit_end, import_end, job_end}
-use Rattle.ob_jobs.specs.Importing.{TellsExport, TellsImport}
+use Rattle.ob_jobs.specs.Importing.{TellsExport, TellsImport, TellsWhole}
 use Rattle.ob_jobs.specs.Lines.{audit_line, created_line, migrate_line}
 use Rattle.ob_jobs.specs.Loads.{AuditOf, LoadsThen, OpensThen, TakesThen}
 use Rattle.ob_jobs.specs.Making.{MakingOf}
@@ -69,6 +69,20 @@ module _ {S : Type 0} (g : Ghosts S) where
       → KeeperValue S → KeeperValue S → A → A → Watched W → Watched W → Result ⊤ Unfinished → Type 0
   ImportsIntoBook opens remaining contents old new was is before after result =
       EndsAs import_end (LoadsThen g (λ mid done. ImportsInput opens remaining contents mid new was is before after done)
+      ((is ≡ was) × (after ≡ before)) old new) result
+
+  -- the same of a whole import
+  abbrev pub ImportsWholeInput : {A R W : Type 0} → (A → Option R → A → Type 0) → (R → Option (List ℕ)) → (W → Option (List ℕ))
+      → KeeperValue S → KeeperValue S → A → A → Watched W → Watched W → Result ImportReport Stop → Type 0
+  ImportsWholeInput {A} {R} opens remaining contents old new was is before after done =
+      OpensThen opens Input
+      (λ opened done. (left : Watched R) × TellsWhole g remaining contents old new opened left before after done)
+      ((new ≡ old) × (after ≡ before)) was is done
+
+  abbrev pub ImportsWholeIntoBook : {A R W : Type 0} → (A → Option R → A → Type 0) → (R → Option (List ℕ)) → (W → Option (List ℕ))
+      → KeeperValue S → KeeperValue S → A → A → Watched W → Watched W → Result ⊤ Unfinished → Type 0
+  ImportsWholeIntoBook opens remaining contents old new was is before after result =
+      EndsAs import_end (LoadsThen g (λ mid done. ImportsWholeInput opens remaining contents mid new was is before after done)
       ((is ≡ was) × (after ≡ before)) old new) result
 
   -- the book is loaded, then the output is made anew, and what the commands moved is written into it

@@ -3,7 +3,7 @@ use Rattle.std.specs.Prelude.{⊤, ℕ, Option, Some, None, Result, Ok, Err}
 use Rattle.ob_base.specs.declared.stop.Refusal.{Refusal}
 use Rattle.ob_base.specs.declared.stop.Stop.{Stop}
 use Rattle.ob_base.specs.declared.stop.Stop.TheVariants.{Refused}
-use Rattle.ob_tables.specs.declared.table.Table.{Table}
+use Rattle.ob_sql_rows.specs.declared.table.Table.{Table}
 use Rattle.ob_import.specs.declared.report.ImportReport.{ImportReport}
 use Rattle.ob_cli.specs.declared.status.Unfinished.{Unfinished}
 use Rattle.ob_cli.specs.declared.status.Unfinished.TheVariants.{Stopped, Differs}

@@ -11,6 +11,7 @@ use Rattle.ob_store.specs.Calls.{CommitsNothing, IfHeld, WasClean}
 use Rattle.ob_store.specs.Keepers.{Ghosts, KeeperValue}
 use Rattle.ob_store.specs.Keeping.{IsBookAfter}
 use Rattle.ob_import.specs.Reports.{ImportOf}
+use Rattle.ob_import.specs.Whole.{WholeOf}
 use Rattle.ob_import.specs.declared.report.ImportReport.{ImportReport}
 use Rattle.ob_import.specs.declared.report.ImportFault.{ImportFault}
 use Rattle.ob_jobs.specs.Exporting.{Exports}
@@ -41,6 +42,12 @@ module _ {S : Type 0} (g : Ghosts S) where
       → Watched R → Watched R → Watched W → Watched W → Result ImportReport Stop → Type 0
   TellsImport remaining contents old new was is before after done =
       TellsAfter (ImportsAs (ImportOf g remaining old new was is)) import_line contents before after done
+
+  -- the same of a whole import
+  abbrev pub TellsWhole : {R W : Type 0} → (R → Option (List ℕ)) → (W → Option (List ℕ)) → KeeperValue S → KeeperValue S
+      → Watched R → Watched R → Watched W → Watched W → Result ImportReport Stop → Type 0
+  TellsWhole remaining contents old new was is before after done =
+      TellsAfter (ImportsAs (WholeOf g remaining old new was is)) import_line contents before after done
 
   -- an export to a writer: there is a book or it is answered that there is none; what is written, and what then stands
   pub record ExportOf {F : Type 0} (contents : F → Option (List ℕ)) (old new : KeeperValue S) (was is : Watched F)

@@ -1,7 +1,7 @@
 -- The lines that jobs tell their end by.
 use Rattle.std.specs.Prelude.{ℕ, List, ◌++◌, Bool, true, false, Option, Some, None, codes}
-use Rattle.ob_tables.specs.Rows.{table_name}
-use Rattle.ob_tables.specs.declared.table.Table.{Table}
+use Rattle.ob_sql_rows.specs.Rows.{table_name}
+use Rattle.ob_sql_rows.specs.declared.table.Table.{Table}
 
 -- a book was made
 abbrev pub created_line : List ℕ

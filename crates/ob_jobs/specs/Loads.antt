@@ -5,7 +5,7 @@ use Rattle.ob_base.specs.declared.stop.Stop.TheVariants.{Fault}
 use Rattle.ob_base.specs.declared.stop.Fault.{Fault as AFault}
 use Rattle.ob_stream.specs.Watching.{watched_inner}
 use Rattle.ob_stream.specs.declared.watched.Watched.{Watched}
-use Rattle.ob_tables.specs.declared.table.Table.{Table}
+use Rattle.ob_sql_rows.specs.declared.table.Table.{Table}
 use Rattle.ob_store.specs.Calls.{CommitsNothing, OnOldTables, OnTables, ReadAnswers, WasClean}
 use Rattle.ob_store.specs.Crashing.{Loads}
 use Rattle.ob_store.specs.Keepers.{Ghosts, KeeperValue}

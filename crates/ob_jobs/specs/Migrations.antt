@@ -1,7 +1,7 @@
 -- What a migration of a book's tables to version 2 leaves.
 use Rattle.std.specs.Prelude.{◌≡◌, Bool, Result, IfErr, OnOk}
 use Rattle.ob_base.specs.declared.stop.Stop.{Stop}
-use Rattle.ob_compare.specs.Reading.{IsReadFault}
+use Rattle.ob_sql_read.specs.Reading.{IsReadFault}
 use Rattle.ob_store.specs.Calls.{CommitsUpgrade, IfStoredOld, LeavesCurrentTables, MigratesOldTables, MigratesStoredBook, MigrationAnswers, OnOldTables, OnTables, WasClean}
 use Rattle.ob_store.specs.Keepers.{Ghosts, KeeperValue}
 use Rattle.ob_store.specs.Keeping.{IsBookAfter}

@@ -13,7 +13,7 @@ abbrev pub table_text : Option BookState → List ℕ
 table_text None = []
 table_text (Some book) = annual_table_of_book book
 
--- the indices of a book by feeder, month, cause or section, where there is one
+-- the indices of a book by feeder, month, day, cause or section, where there is one
 abbrev pub indices_text : By → ℕ → Option BookState → List ℕ
 indices_text by longest None = []
 indices_text by longest (Some book) = indices_text_of book by longest

@@ -4,7 +4,7 @@ use Rattle.ob_base.specs.declared.stop.Stop.{Stop}
 use Rattle.ob_stream.specs.declared.watched.Watched.{Watched}
 use Rattle.ob_store.specs.Keepers.{Ghosts, KeeperValue}
 use Rattle.ob_cli.specs.declared.status.Unfinished.{Unfinished}
-use Rattle.ob_jobs.specs.Books.{AuditsBook, ExportsFromBook, ImportsIntoBook, MakesBook, MigratesBook, PrintsBook, PrintsIndices, ServesBook, WritesRowsOfBook}
+use Rattle.ob_jobs.specs.Books.{AuditsBook, ExportsFromBook, ImportsIntoBook, ImportsWholeIntoBook, MakesBook, MigratesBook, PrintsBook, PrintsIndices, ServesBook, WritesRowsOfBook}
 use Rattle.ob_jobs.specs.declared.tasks.Task.{Task}
 use Rattle.ob_jobs.specs.declared.tasks.Task.TheVariants as tasks
 
@@ -18,6 +18,7 @@ module _ {I O V : Type 0} where
   abbrev pub may_write : Task I O V → Bool
   may_write (tasks.Init first days zone) = true
   may_write (tasks.Import was) = true
+  may_write (tasks.ImportWhole was) = true
   may_write tasks.Migrate = true
   may_write (tasks.Serve was) = true
   may_write task = false
@@ -33,6 +34,8 @@ module _ {S I R O F V Q W : Type 0} (g : Ghosts S)
       MakesBook g contents old new first.now days zone.now before after result
   RunsTask (tasks.Import was) old new before after result =
       (is : I) × ImportsIntoBook g opens remaining contents old new was is before after result
+  RunsTask (tasks.ImportWhole was) old new before after result =
+      (is : I) × ImportsWholeIntoBook g opens remaining contents old new was is before after result
   RunsTask (tasks.Export was) old new before after result =
       (is : O) × ExportsFromBook g makes filled contents old new was is before after result
   RunsTask (tasks.Interruptions was) old new before after result =

@@ -9,10 +9,10 @@ use crate::ending::end_of_audit;
 use crate::tell::tell;
 use ob_base::Stop;
 use ob_cli::Unfinished;
+use ob_sql_rows::Table;
 use ob_store::{Alter, Keeper};
 use ob_stream::Watched;
 use ob_sweep::Timeline;
-use ob_tables::Table;
 use std::alloc::{AllocError, Global};
 use std::io::Write;
 

@@ -5,7 +5,7 @@ ghost use Rattle.ob_jobs.specs.Endings.{audit_end, import_end, job_end};
 use ob_base::Stop;
 use ob_cli::Unfinished;
 use ob_import::ImportReport;
-use ob_tables::Table;
+use ob_sql_rows::Table;
 
 /// The end of a job that was done, refused, or met a fault.
 pub(crate) fn end_of_job<X: Copy>(job: Result<X, Stop>) -> Result<(), Unfinished>

@@ -48,7 +48,7 @@ pub fn import_into_book<O: OpenInput, S: Alter, T: Timeline, P: Progress, W: Wri
 }
 
 /// Writes the number of rows applied, and returns the report unchanged.
-fn tell_report<W: Write>(
+pub(crate) fn tell_report<W: Write>(
     alloc: Global,
     report: ImportReport,
     writer: &mut Watched<W>,

@@ -1,4 +1,4 @@
-//! The job that prints the indices of a book by feeder, month, cause or section.
+//! The job that prints the indices of a book by feeder, month, day, cause or section.
 ghost use Rattle.std.specs.Prelude.{◌≡◌};
 ghost use Rattle.ob_jobs.specs.Books.{PrintsIndices};
 ghost use Rattle.ob_jobs.specs.Tabling.{HasTable, indices_text};

@@ -4,8 +4,8 @@ ghost use Rattle.ob_jobs.specs.Tasks.{RunsTask, makes_book, may_write};
 
 use crate::opening::{OpenInput, OpenOutput, ServeBook};
 use crate::{
-    audit_book, export_from_book, import_into_book, interruptions_from_book, make_book,
-    migrate_book, print_book, print_indices, serve_book,
+    audit_book, export_from_book, import_into_book, import_whole_into_book,
+    interruptions_from_book, make_book, migrate_book, print_book, print_indices, serve_book,
 };
 use ob_base::Second;
 use ob_cli::Unfinished;
@@ -31,6 +31,8 @@ pub enum Task<'w, I, O, V> {
     },
     /// Imports the commands of an input.
     Import(I),
+    /// Imports all commands of an input, or none.
+    ImportWhole(I),
     /// Writes the changes of amounts that the commands made into an output.
     Export(O),
     /// Writes the interruptions of the book's customers into an output.
@@ -55,6 +57,7 @@ impl<I, O, V> Task<'_, I, O, V> {
         match self {
             Task::Init { .. } => true,
             Task::Import(_)
+            | Task::ImportWhole(_)
             | Task::Export(_)
             | Task::Interruptions(_)
             | Task::Table
@@ -70,7 +73,11 @@ impl<I, O, V> Task<'_, I, O, V> {
         ensures { result ≡ may_write self.now }
     {
         match self {
-            Task::Init { .. } | Task::Import(_) | Task::Migrate | Task::Serve(_) => true,
+            Task::Init { .. }
+            | Task::Import(_)
+            | Task::ImportWhole(_)
+            | Task::Migrate
+            | Task::Serve(_) => true,
             Task::Export(_)
             | Task::Interruptions(_)
             | Task::Table
@@ -102,6 +109,9 @@ pub fn run_task<
     match task {
         Task::Init { first, days, zone } => make_book(keeper, first, days, zone, writer),
         Task::Import(mut input) => import_into_book(alloc, keeper, &mut input, progress, writer),
+        Task::ImportWhole(mut input) => {
+            import_whole_into_book(alloc, keeper, &mut input, progress, writer)
+        }
         Task::Export(mut output) => export_from_book(alloc, keeper, &mut output, progress, writer),
         Task::Interruptions(mut output) => {
             interruptions_from_book(alloc, keeper, &mut output, progress, writer)

@@ -2,7 +2,7 @@
 //!
 //! Defines which members each text has and in what order, without spaces between them. Promises
 //! each text byte for byte, as a function of the values that it shows. `ob_book` uses this crate
-//! for the totals, the indices and plans. `ob_replies` makes the other JSON texts.
+//! for the totals, the indices and plans. `ob_http_replies` makes the other JSON texts.
 #![tactic(auto)]
 
 mod indices;

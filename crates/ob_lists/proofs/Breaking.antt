@@ -6,18 +6,18 @@ use Rattle.ob_stream.specs.Watching.{HasJustFailed}
 use Rattle.ob_stream.specs.declared.watched.Watched.{Watched}
 use Rattle.ob_book.specs.Acts.{ActState, act}
 use Rattle.ob_store.specs.Keepers.{Ghosts, KeeperValue, StoresEither, Ties}
-use Rattle.ob_requests.specs.Continue.{interim_text}
-use Rattle.ob_requests.specs.Message.{IsCutBody, Message, path_of}
-use Rattle.ob_requests.specs.Reading.{AfterHead}
-use Rattle.ob_requests.specs.Stream.{ends}
-use Rattle.ob_requests.specs.declared.framing.Framing.{Framing}
-use Rattle.ob_requests.specs.declared.framing.Method.{Method}
-use Rattle.ob_requests.specs.declared.framing.Method.TheVariants as methods
-use Rattle.ob_routes.specs.Answering.{Answered, StandsLost, StandsShort}
-use Rattle.ob_routes.specs.Answers.{BooklessAnswersStay}
-use Rattle.ob_routes.specs.Routes.{route_of}
-use Rattle.ob_routes.specs.declared.routes.Route.{Route}
-use Rattle.ob_routes.specs.declared.routes.Route.TheVariants as routes
+use Rattle.ob_http_requests.specs.Continue.{interim_text}
+use Rattle.ob_http_requests.specs.Message.{IsCutBody, Message, path_of}
+use Rattle.ob_http_requests.specs.Reading.{AfterHead}
+use Rattle.ob_http_requests.specs.Stream.{ends}
+use Rattle.ob_http_requests.specs.declared.framing.Framing.{Framing}
+use Rattle.ob_http_requests.specs.declared.framing.Method.{Method}
+use Rattle.ob_http_requests.specs.declared.framing.Method.TheVariants as methods
+use Rattle.ob_http_routes.specs.Answering.{Answered, StandsLost, StandsShort}
+use Rattle.ob_http_routes.specs.Answers.{BooklessAnswersStay}
+use Rattle.ob_http_routes.specs.Routes.{route_of}
+use Rattle.ob_http_routes.specs.declared.routes.Route.{Route}
+use Rattle.ob_http_routes.specs.declared.routes.Route.TheVariants as routes
 use Rattle.ob_desk.specs.Exchanges.{AnswersAt}
 use Rattle.ob_desk.specs.Serving.{Breaks, BreaksAnswer, BreaksReply, IsFront, IsWritten, WritesCut, WritesHead, WritesSoFar}
 use Rattle.ob_desk.specs.Standing.{Stands as Has}

@@ -9,4 +9,5 @@ pub mod Serving
 pub mod Beginning
 pub mod Numbering
 pub mod Planning
+pub mod Auditing
 pub mod Headlines

@@ -1,16 +1,16 @@
 -- The hidden row numbers that a crash leaves: over a command, and from a new book on.
-use Rattle.std.proofs.Common.{◌≡◌, inl, inr, ℕ, List, [], ◌++◌, None, Result, Ok, Err, IsSome, OnOk, refl, sym, subst, append-nil}
+use Rattle.std.proofs.Common.{◌≡◌, inl, inr, ℕ, List, [], ◌++◌, None, Result, Ok, Err, IsSome, OnOk, refl, sym, ap, subst, append-nil, ◌∙◌, is_some, true≢false}
 use Rattle.std.specs.Prelude.{⊤}
 use Rattle.ob_base.specs.declared.stop.Stop.{Stop}
 use Rattle.ob_base.specs.declared.stop.Stop.TheVariants.{Fault}
 use Rattle.ob_base.specs.declared.stop.Fault.TheVariants.{Reopen}
 use Rattle.ob_book.specs.Acts.{ActState, Referenced, start}
-use Rattle.ob_store.specs.Calls.{HasCommandCause}
+use Rattle.ob_store.specs.Calls.{HasCommandCause, TellsFaults}
 use Rattle.ob_store.specs.Keepers.{Ghosts, KeeperValue, StoresNumbers, Ties}
 use Rattle.ob_store.specs.Creating.{Created}
 use Rattle.ob_store.specs.declared.reply.Reply.{Reply as GivenReply}
 use Rattle.ob_lists.specs.Standing.{MayBe, Stands, Told}
-use Rattle.ob_lists.specs.Going.{ActsForCause, BegunNumbered}
+use Rattle.ob_lists.specs.Going.{ActsForCause, BegunNumbered, TellsOverList}
 use Rattle.ob_lists.proofs.Standings.{by_book}
 
 module _ {S : Type 0} (g : Ghosts S) (old new : KeeperValue S) (Is : ActState → Type 0) where
@@ -39,6 +39,20 @@ module _ {S : Type 0} (g : Ghosts S) (old new : KeeperValue S) (Is : ActState �
     | inl none ↦ subst (λ (k : KeeperValue S). StoresNumbers g k) (sym (unopened none)) numbers
     | inr it ↦ numbered it.0 it.2
   ]
+
+-- what a call tells of the store's faults, of whichever book there may be
+pub tells_over : {S : Type 0} (g : Ghosts S) (old new : KeeperValue S) (F : Type 0) → (old.book ≡ None → new ≡ old) → TellsFaults g old new F → TellsOverList g old new F
+tells_over g old new F unopened tells = record {
+  forgets = tells.forgets;
+  numbered = λ b told stands numbers. elim (by_book g old new (MayBe b told) old.book refl stands) [
+    | inl none ↦ subst (λ k. StoresNumbers g k) (sym (unopened none)) numbers
+    | inr it ↦ (λ clean. tells.numbered clean it.0 it.2 it.3 numbers clean)
+  ];
+  cause = λ clean b told stands some numbers fails. elim (by_book g old new (MayBe b told) old.book refl stands) [
+    | inl none ↦ absurd (true≢false (sym some ∙ ap is_some none))
+    | inr it ↦ (it.0, it.1, tells.cause clean it.0 it.2 it.3 numbers fails)
+  ];
+}
 
 -- a new book, and what is told of it since
 module _ {S R : Type 0} (g : Ghosts S) (h : Ghosts R) (old made : KeeperValue S) (new : KeeperValue R) (first : List ℕ) (days : ℕ) (zone : List ℕ) (told : List Told) where

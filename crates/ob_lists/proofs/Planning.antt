@@ -1,5 +1,5 @@
 -- What a plan says of a book that the store may have.
-use Rattle.std.proofs.Common.{◌≡◌, ◌↔◌, inl, inr, ap, refl, ◌∙◌, ℕ, List, Option, Some, None, IfSome, Result, Ok, Err, is_ok, true≢false}
+use Rattle.std.proofs.Common.{◌≡◌, ◌↔◌, inl, inr, ap, refl, sym, ◌∙◌, ℕ, List, Option, Some, None, IfSome, Result, Ok, Err, is_ok, true≢false}
 use Rattle.std.specs.Prelude.{IfOk}
 use Rattle.ob_base.specs.declared.stop.Fault.TheVariants.{Reopen}
 use Rattle.ob_base.specs.declared.stop.Refusal.{Refusal}
@@ -11,7 +11,7 @@ use Rattle.ob_state.specs.State.{BookState}
 use Rattle.ob_book.specs.Acts.{ActState}
 use Rattle.ob_book.specs.Forecasts.{forecast_text_of}
 use Rattle.ob_store.specs.Keepers.{Ghosts, KeeperValue}
-use Rattle.ob_lists.specs.Going.{PlansOne}
+use Rattle.ob_lists.specs.Going.{PlansOne, RefusesOne}
 use Rattle.ob_lists.specs.Standing.{Stands}
 
 not_stopped : {X : Type 0} (x : X) (stop : Stop) → ◌≡◌ {A = Result X Stop} (Ok x) (Err stop) → ⊥
@@ -22,6 +22,10 @@ unrefused : {X : Type 0} (x : X) (b : BookState) (command : Command) (why : Opti
     → ((r : Refusal) → ◌≡◌ {A = Result X Stop} (Ok x) (Err (Refused r)) ↔ (refusal b command ≡ Some r)) → refusal b command ≡ None
 unrefused x b command None why refuses = why
 unrefused x b command (Some r) why refuses = absurd (not_stopped x (Refused r) ((refuses r).1 why))
+
+-- a refusal isn't told where there is no book
+not_refused : {X : Type 0} (why : Refusal) → ◌≡◌ {A = Result X Stop} (Err (Refused why)) (Err (Fault Reopen)) → ⊥
+not_refused why e = cc
 
 module _ {S X : Type 0} (g : Ghosts S) (Is : ActState → Type 0) (k : KeeperValue S) (items : X → List ℕ) (command : Command) where
   -- the plan of the book that the keeper has, which is this one's
@@ -43,3 +47,21 @@ module _ {S X : Type 0} (g : Ghosts S) (Is : ActState → Type 0) (k : KeeperVal
   plans_one (Ok x) reopen refuses text (inr (inl it)) = absurd (not_stopped x (Fault Reopen) (reopen it.lost))
   plans_one (Ok x) reopen refuses text (inr (inr (inl it))) = absurd (not_stopped x (Fault Reopen) (reopen it.lost))
   plans_one (Ok x) reopen refuses text (inr (inr (inr it))) = absurd (not_stopped x (Fault Reopen) (reopen it.lost))
+
+  -- and its refusal
+  refused_by : (result : Result X Stop) (o : Option BookState) (a : ActState) → k.book ≡ o → Is a → IfSome o (λ s. s ≡ a.book)
+      → (k.book ≡ None → result ≡ Err (Fault Reopen))
+      → ((b : BookState) → k.book ≡ Some b → (r : Refusal) → (result ≡ Err (Refused r)) ↔ (refusal b command ≡ Some r))
+      → (why : Refusal) → result ≡ Err (Refused why) → RefusesOne Is command why
+  refused_by result None a at is same reopen refuses why told = absurd (not_refused why (sym told ∙ reopen at))
+  refused_by result (Some b) a at is same reopen refuses why told =
+      let here : k.book ≡ Some a.book = at ∙ ap Some same in
+      (a, is, (refuses a.book here why).0 told)
+
+  pub refuses_one : (result : Result X Stop) → (k.book ≡ None → result ≡ Err (Fault Reopen))
+      → ((b : BookState) → k.book ≡ Some b → (r : Refusal) → (result ≡ Err (Refused r)) ↔ (refusal b command ≡ Some r))
+      → Stands g Is k → (why : Refusal) → result ≡ Err (Refused why) → RefusesOne Is command why
+  refuses_one result reopen refuses (inl it) why told = refused_by result k.book it.book refl it.is it.ties.book reopen refuses why told
+  refuses_one result reopen refuses (inr (inl it)) why told = absurd (not_refused why (sym told ∙ reopen it.lost))
+  refuses_one result reopen refuses (inr (inr (inl it))) why told = absurd (not_refused why (sym told ∙ reopen it.lost))
+  refuses_one result reopen refuses (inr (inr (inr it))) why told = absurd (not_refused why (sym told ∙ reopen it.lost))

@@ -8,15 +8,15 @@ use Rattle.std.proofs.Math.Seq.{drop-append_seam}
 use Rattle.std.proofs.lemmas.Fmt.{length-decimal-le, decimal_is_IsNumeral, decimal_is_IsNumeral_wide}
 use Rattle.std.proofs.lemmas.List.{append_cancel_left}
 use Rattle.http.specs.StatusCode.{status_text}
-use Rattle.ob_replies.specs.Reply.{allow, connection, content_length, content_type, crlf, reply_text, status_line}
-use Rattle.ob_replies.specs.Status.{status_code}
-use Rattle.ob_replies.specs.declared.reply.MediaType.{MediaType}
-use Rattle.ob_replies.specs.declared.reply.MediaType.TheVariants as types
-use Rattle.ob_replies.specs.declared.status.Allow.{Allow}
-use Rattle.ob_replies.specs.declared.status.Allow.TheVariants.{Get, Post}
-use Rattle.ob_replies.specs.declared.status.Status.{Status}
-use Rattle.ob_replies.specs.declared.status.Status.TheVariants as statuses
-use Rattle.ob_replies.proofs.OnLiterals.{replies_on_literals}
+use Rattle.ob_http_replies.specs.Reply.{allow, connection, content_length, content_type, crlf, reply_text, status_line}
+use Rattle.ob_http_replies.specs.Status.{status_code}
+use Rattle.ob_http_replies.specs.declared.reply.MediaType.{MediaType}
+use Rattle.ob_http_replies.specs.declared.reply.MediaType.TheVariants as types
+use Rattle.ob_http_replies.specs.declared.status.Allow.{Allow}
+use Rattle.ob_http_replies.specs.declared.status.Allow.TheVariants.{Get, Post}
+use Rattle.ob_http_replies.specs.declared.status.Status.{Status}
+use Rattle.ob_http_replies.specs.declared.status.Status.TheVariants as statuses
+use Rattle.ob_http_replies.proofs.OnLiterals.{replies_on_literals}
 
 in_pieces : (a b c d e f g t : List ℕ) → a ++ b ++ c ++ d ++ e ++ f ++ g ++ t ≡ a ++ (b ++ (c ++ (d ++ (e ++ (f ++ (g ++ t))))))
 in_pieces a b c d e f g t =

@@ -1,7 +1,7 @@
 -- What is left of a book after a crash, once its store is opened again.
 use Rattle.std.proofs.Common.{◌≡◌, inl, inr, ◌++◌, IfSome, sym, subst, append_assoc}
 use Rattle.ob_book.specs.Acts.{ActState}
-use Rattle.ob_parts.specs.Laws.{OldIsReached}
+use Rattle.ob_sql_check.specs.Laws.{OldIsReached}
 use Rattle.ob_store.specs.Keepers.{Ghosts, KeeperValue}
 use Rattle.ob_store.proofs.Restarting.{Settles, either_after, old_after, stored_after, version_after}
 use Rattle.ob_lists.specs.Standing.{MayBe, Stands}

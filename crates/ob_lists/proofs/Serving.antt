@@ -7,8 +7,8 @@ use Rattle.ob_base.specs.declared.stop.Fault.TheVariants.{OutOfMemory, Store, Re
 use Rattle.ob_stream.specs.declared.watched.Watched.{Watched}
 use Rattle.ob_book.specs.Acts.{ActState, Referenced, act, acts}
 use Rattle.ob_store.specs.Keepers.{Ghosts, IsClean, KeeperValue, Ties}
-use Rattle.ob_requests.specs.Message.{Message}
-use Rattle.ob_routes.specs.Answers.{BooklessAnswersStay}
+use Rattle.ob_http_requests.specs.Message.{Message}
+use Rattle.ob_http_routes.specs.Answers.{BooklessAnswersStay}
 use Rattle.ob_desk.specs.Crashes.{IsLeft}
 use Rattle.ob_desk.specs.Exchanges.{Replies, ending_text}
 use Rattle.ob_desk.specs.Listening.{LeavesKeeper, last_fault}

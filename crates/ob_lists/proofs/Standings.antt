@@ -21,7 +21,7 @@ use Rattle.ob_store.specs.Versions.{IsLoadFault, Outdated}
 use Rattle.ob_store.specs.declared.reply.Reply.{Reply as GivenReply}
 use Rattle.ob_store.proofs.KeeperLaws.{as_either_version, migrated_never, migrated_stores, none_of_two, none_of_versions, none_stored, shows_old, states_old}
 use Rattle.ob_lists.specs.Standing.{InUpgrade, KeptOld, MayBe, Stands, Told, told_by}
-use Rattle.ob_lists.specs.Going.{Finds, LoadsOne}
+use Rattle.ob_lists.specs.Going.{Finds, LoadsOne, OfOne}
 
 -- the book after a stop is none, or as before
 pub after_stop : (was is : Option BookState) (stop : Stop) → IsBookAfter was is stop → (is ≡ was) ⊎ (is ≡ None)
@@ -94,8 +94,16 @@ module _ {S : Type 0} (g : Ghosts S) (old new : KeeperValue S) where
     by_book (Some s) e (inr (inr (inl it))) = inl it.lost
     by_book (Some s) e (inr (inr (inr it))) = inl it.lost
 
+    -- the answer of a call that needs a book is that of the one that there is
+    pub of_one : {X : Type 0} {Answers : ActState → Type 0} (r : Result X Stop) → (old.book ≡ None → r ≡ Err (Fault Reopen))
+        → ((x : ActState) → Ties g old x → IsSome old.book → Answers x) → Stands g Is old → OfOne Is old r Answers
+    of_one r reopen answers stands = elim (by_book old.book refl stands) [
+      | inl none ↦ inl (none, reopen none)
+      | inr it ↦ inr (it.0, it.1, answers it.0 it.2 it.3)
+    ]
+
     -- what there may be of a book of version 1
-    old_book : KeptOld g Is old ⊎ InUpgrade g Is old → (x : ActState) × Is x × StoresEitherVersion g old x
+    pub old_book : KeptOld g Is old ⊎ InUpgrade g Is old → (x : ActState) × Is x × StoresEitherVersion g old x
     old_book (inl it) = (it.book, it.is, as_either_version g old it.book it.keeps)
     old_book (inr it) = (it.book, it.is, it.keeps)
 
@@ -119,28 +127,28 @@ module _ {S : Type 0} (g : Ghosts S) (old new : KeeperValue S) where
     load_stands law (Err stop) loads clean stands = kept_on loads.answers.keeps (after_stop old.book new.book stop loads.dropped) stands
 
     -- over the tables of version 1 that version is told
-    told_old : (r : Refusal) → StatesOld g old → KeptOld g Is old ⊎ InUpgrade g Is old → Outdated g {X = ⊤} old new (Err (Refused r)) → LoadsOne g Is old new (Err (Refused r))
-    told_old (BadField at) one it told = absurd told
-    told_old UnknownName one it told = absurd told
-    told_old NameTaken one it told = absurd told
-    told_old OutOfPeriod one it told = absurd told
-    told_old UnknownEntry one it told = absurd told
-    told_old (Stale revision) one it told = absurd told
-    told_old Withdrawn one it told = absurd told
-    told_old UnknownCustomer one it told = absurd told
-    told_old BadService one it told = absurd told
-    told_old (RefConflict id) one it told = absurd told
-    told_old (Full most) one it told = absurd told
-    told_old MarkedAlready one it told = absurd told
-    told_old NotMarked one it told = absurd told
-    told_old UnknownCause one it told = absurd told
-    told_old BadPeriod one it told = absurd told
-    told_old BadBook one it told = absurd (told.0 one)
-    told_old BadLife one it told = absurd told
-    told_old (OldVersion version) one it told = (told.0, it)
+    pub told_old : (X : Type 0) (r : Refusal) → StatesOld g old → KeptOld g Is old ⊎ InUpgrade g Is old → Outdated g {X = X} old new (Err (Refused r)) → LoadsOne g Is old new (Err (Refused r))
+    told_old X (BadField at) one it told = absurd told
+    told_old X UnknownName one it told = absurd told
+    told_old X NameTaken one it told = absurd told
+    told_old X OutOfPeriod one it told = absurd told
+    told_old X UnknownEntry one it told = absurd told
+    told_old X (Stale revision) one it told = absurd told
+    told_old X Withdrawn one it told = absurd told
+    told_old X UnknownCustomer one it told = absurd told
+    told_old X BadService one it told = absurd told
+    told_old X (RefConflict id) one it told = absurd told
+    told_old X (Full most) one it told = absurd told
+    told_old X MarkedAlready one it told = absurd told
+    told_old X NotMarked one it told = absurd told
+    told_old X UnknownCause one it told = absurd told
+    told_old X BadPeriod one it told = absurd told
+    told_old X BadBook one it told = absurd (told.0 one)
+    told_old X BadLife one it told = absurd told
+    told_old X (OldVersion version) one it told = (told.0, it)
 
     -- a fault that a load can have
-    load_fault : (f : AFault) → IsLoadFault (Fault f) → LoadsOne g Is old new (Err (Fault f))
+    pub load_fault : (f : AFault) → IsLoadFault (Fault f) → LoadsOne g Is old new (Err (Fault f))
     load_fault OutOfMemory may = tt
     load_fault Store may = tt
     load_fault Reopen may = elim may [ inl read ↦ elim read [ inl store ↦ elim store [ inl e ↦ absurd cc | inr e ↦ absurd cc ] | inr e ↦ absurd cc ] | inr e ↦ absurd cc ]
@@ -155,7 +163,7 @@ module _ {S : Type 0} (g : Ghosts S) (old new : KeeperValue S) where
         let found = old_book it in
         let was_clean = loads.clean clean in
         let live = loads.answers.live clean tt in
-        told_old r (states_old g old found.0 found.2 was_clean live) it (loads.outdated clean (shows_old g old found.0 found.2 was_clean live))
+        told_old ⊤ r (states_old g old found.0 found.2 was_clean live) it (loads.outdated clean (shows_old g old found.0 found.2 was_clean live))
     loads_one law (Err (Fault f)) loads clean stands = load_fault f loads.stops
 
     -- ---- a stored reply, and what was moved

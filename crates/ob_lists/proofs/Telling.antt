@@ -17,15 +17,15 @@ use Rattle.ob_state.specs.Refusals.{refusal}
 use Rattle.ob_book.specs.Acts.{ActState, Referenced, Reply, act, acts, answer, answer_again, answer_new, answer_under, is_accepted, is_repeat, is_same, reply_of, take_on}
 use Rattle.ob_import.specs.Imports.{AreAnswered, Begins, Import, ImportsBody, Say, Taken, after_header}
 use Rattle.ob_import.specs.Reports.{AreRows, import_as}
-use Rattle.ob_requests.specs.Continue.{interim_text}
-use Rattle.ob_requests.specs.Message.{Message, path_of}
-use Rattle.ob_requests.specs.declared.framing.Method.{Method}
-use Rattle.ob_requests.specs.declared.framing.Method.TheVariants as methods
-use Rattle.ob_routes.specs.Answering.{body_rows}
-use Rattle.ob_routes.specs.Answers.{Answers, RequestsAreAnsweredOneThing, RouteAnswers, outcome}
-use Rattle.ob_routes.specs.Routes.{route_of}
-use Rattle.ob_routes.specs.declared.routes.Route.{Route}
-use Rattle.ob_routes.specs.declared.routes.Route.TheVariants as routes
+use Rattle.ob_http_requests.specs.Continue.{interim_text}
+use Rattle.ob_http_requests.specs.Message.{Message, path_of}
+use Rattle.ob_http_requests.specs.declared.framing.Method.{Method}
+use Rattle.ob_http_requests.specs.declared.framing.Method.TheVariants as methods
+use Rattle.ob_http_routes.specs.Answering.{body_rows}
+use Rattle.ob_http_routes.specs.Answers.{Answers, RequestsAreAnsweredOneThing, RouteAnswers, outcome}
+use Rattle.ob_http_routes.specs.Routes.{route_of}
+use Rattle.ob_http_routes.specs.declared.routes.Route.{Route}
+use Rattle.ob_http_routes.specs.declared.routes.Route.TheVariants as routes
 use Rattle.ob_desk.specs.Exchanges.{Replies}
 use Rattle.ob_desk.specs.declared.stream.Served.{Served}
 use Rattle.ob_desk.proofs.CrashLemmas.{replies-act}

@@ -9,17 +9,17 @@ use Rattle.ob_base.specs.declared.stop.Fault.TheVariants.{OutOfMemory, Store, Re
 use Rattle.ob_base.specs.declared.stop.Refusal.{Refusal}
 use Rattle.ob_base.specs.declared.stop.Refusal.TheVariants.{BadField, UnknownName, NameTaken, OutOfPeriod, UnknownEntry, Stale, Withdrawn, UnknownCustomer, BadService, RefConflict, Full, MarkedAlready, NotMarked, UnknownCause, BadPeriod, BadBook, BadLife, OldVersion}
 use Rattle.ob_book.specs.Acts.{ActState, Referenced, Reply, act, answer}
-use Rattle.ob_requests.specs.Continue.{continue_text, interim_text}
-use Rattle.ob_requests.specs.Laws.{OneRequest}
-use Rattle.ob_requests.specs.Message.{Message, ReadsKnown, ReadsMessage}
-use Rattle.ob_requests.specs.Stream.{After, AfterKnown, Requests, ends}
-use Rattle.ob_requests.specs.declared.framing.HeadRefusal.{HeadRefusal}
-use Rattle.ob_requests.specs.declared.framing.HeadRefusal.TheVariants as heads
-use Rattle.ob_replies.specs.Reply.{allow, connection, content_length, content_type, crlf, status_line}
-use Rattle.ob_replies.specs.Status.{refusal_status, status_code}
-use Rattle.ob_replies.specs.declared.status.Status.{Status}
-use Rattle.ob_replies.specs.declared.status.Status.TheVariants as statuses
-use Rattle.ob_routes.specs.Answers.{Answer, Answers, RequestsAreAnsweredOneThing, answer_text, empty, outcome}
+use Rattle.ob_http_requests.specs.Continue.{continue_text, interim_text}
+use Rattle.ob_http_requests.specs.Laws.{OneRequest}
+use Rattle.ob_http_requests.specs.Message.{Message, ReadsKnown, ReadsMessage}
+use Rattle.ob_http_requests.specs.Stream.{After, AfterKnown, Requests, ends}
+use Rattle.ob_http_requests.specs.declared.framing.HeadRefusal.{HeadRefusal}
+use Rattle.ob_http_requests.specs.declared.framing.HeadRefusal.TheVariants as heads
+use Rattle.ob_http_replies.specs.Reply.{allow, connection, content_length, content_type, crlf, status_line}
+use Rattle.ob_http_replies.specs.Status.{refusal_status, status_code}
+use Rattle.ob_http_replies.specs.declared.status.Status.{Status}
+use Rattle.ob_http_replies.specs.declared.status.Status.TheVariants as statuses
+use Rattle.ob_http_routes.specs.Answers.{Answer, Answers, RequestsAreAnsweredOneThing, answer_text, empty, outcome}
 use Rattle.ob_desk.specs.Exchanges.{Replies, ending_text, head_status, refusal_text, unavailable_text}
 use Rattle.ob_desk.specs.Serving.{IsFront, WritesHead}
 use Rattle.ob_desk.specs.declared.stream.Served.{Served}

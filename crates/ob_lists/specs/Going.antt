@@ -1,10 +1,11 @@
 -- What any list of calls on a keeper comes to, with crashes and openings between them.
-use Rattle.std.specs.Prelude.{◌≡◌, ◌⊎◌, ⊤, ℕ, ◌<◌, ◌^◌, true, List, [], ◌++◌, length, Contains, Option, Some, None, Result, Ok, Err, IsErr}
+use Rattle.std.specs.Prelude.{◌≡◌, ◌⊎◌, ⊤, ℕ, ◌<◌, ◌^◌, true, List, [], ◌++◌, length, Contains, Option, Some, None, Result, Ok, Err, IsErr, IsSome}
 use Rattle.std.specs.List.{AllByRecursion}
 use Rattle.ob_base.specs.declared.stop.Stop.{Stop}
 use Rattle.ob_base.specs.declared.stop.Stop.TheVariants.{Refused, Fault}
+use Rattle.ob_base.specs.declared.stop.Refusal.{Refusal}
 use Rattle.ob_base.specs.declared.stop.Refusal.TheVariants.{OldVersion}
-use Rattle.ob_base.specs.declared.stop.Fault.TheVariants.{OutOfMemory, Store}
+use Rattle.ob_base.specs.declared.stop.Fault.TheVariants.{OutOfMemory, Store, Reopen}
 use Rattle.ob_time.specs.Calendar.{Calendar}
 use Rattle.ob_time.specs.Period.{IsPeriodText}
 use Rattle.ob_command.specs.declared.command.Command.{Command}
@@ -12,11 +13,12 @@ use Rattle.ob_csv.specs.Rows.{Fields}
 use Rattle.ob_state.specs.Refusals.{refusal}
 use Rattle.ob_book.specs.Acts.{ActState, Referenced, is_same, start}
 use Rattle.ob_book.specs.Forecasts.{forecast_text_of}
+use Rattle.ob_sql_rows.specs.declared.table.Table.{Table}
 use Rattle.ob_import.specs.Imports.{Says}
 use Rattle.ob_import.specs.Reports.{AreRows}
-use Rattle.ob_store.specs.Calls.{HasCommandCause, OpensAfter}
+use Rattle.ob_store.specs.Calls.{ForgetsNoFault, HasCommandCause, HasWorkCause, OpensAfter}
 use Rattle.ob_store.specs.Keepers.{Ghosts, IsClean, KeeperValue, StoresNumbers, Ties}
-use Rattle.ob_requests.specs.Message.{Message}
+use Rattle.ob_http_requests.specs.Message.{Message}
 use Rattle.ob_lists.specs.Importing.{Ended, body_of, counted}
 use Rattle.ob_lists.specs.Streaming.{Accepts, Acknowledges, AnswersStream, Sends, Stream}
 use Rattle.ob_lists.specs.Standing.{InUpgrade, KeptOld, MayBe, Stands, Told, acknowledged, imported, streamed}
@@ -48,6 +50,14 @@ module _ {S M R : Type 0} (g : Ghosts S) (m : Ghosts M) (h : Ghosts R) where
 abbrev pub PlansOne : (ActState → Type 0) → Command → List ℕ → Type 0
 PlansOne Is command text = (x : ActState) × Is x × (refusal x.book command ≡ None) × (text ≡ forecast_text_of x.book command)
 
+-- the refusal of a plan is that of one of these books
+abbrev pub RefusesOne : (ActState → Type 0) → Command → Refusal → Type 0
+RefusesOne Is command why = (x : ActState) × Is x × (refusal x.book command ≡ Some why)
+
+-- The answer of a call that needs a book: the keeper had none, which is told; or it is the answer of one of these books.
+abbrev pub OfOne : {S X : Type 0} → (ActState → Type 0) → KeeperValue S → Result X Stop → (ActState → Type 0) → Type 0
+OfOne Is old result Answers = ((old.book ≡ None) × (result ≡ Err (Fault Reopen))) ⊎ ((x : ActState) × Is x × Answers x)
+
 module _ {S : Type 0} (g : Ghosts S) where
   -- a load finds one of these books, or tells that it is of version 1; or memory was refused, or the store failed
   abbrev pub LoadsOne : (ActState → Type 0) → KeeperValue S → KeeperValue S → Result ⊤ Stop → Type 0
@@ -58,7 +68,12 @@ module _ {S : Type 0} (g : Ghosts S) where
   LoadsOne Is old new (Err (Fault Store)) = ⊤
   LoadsOne Is old new (Err (Fault fault)) = ⊥
 
-  -- the same of the last of some calls
+  -- an audit finds no table that differs from those of one of these books; or it stops as a load may
+  abbrev pub AuditsOne : (ActState → Type 0) → KeeperValue S → KeeperValue S → Result (Option Table) Stop → Type 0
+  AuditsOne Is old new (Ok found) = found ≡ None
+  AuditsOne Is old new (Err stop) = LoadsOne Is old new (Err stop)
+
+  -- what the load finds that is the last of some calls
   abbrev pub Finds : (ActState → Type 0) → KeeperValue S → Result ⊤ Stop → Type 0
   Finds Is new (Ok done) = (b : ActState) × Is b × Ties g new b × (new.book ≡ Some b.book)
   Finds Is new (Err (Refused (OldVersion version))) = version ≡ 1
@@ -79,6 +94,14 @@ module _ {S : Type 0} (g : Ghosts S) where
   -- where the store is told to have failed on a command, that has its cause, over one of these books
   abbrev pub ActsForCause : {X : Type 0} → (ActState → Type 0) → KeeperValue S → KeeperValue S → Referenced → Result X Stop → Type 0
   ActsForCause Is old new a result = (x : ActState) × Is x × HasCommandCause g old new x a result
+
+  -- What is known of the store's faults after a call, which reports that the store failed or doesn't: none is forgotten; hidden row
+  -- numbers 1, 2, 3 and so on stay so, whichever book there is; and then such a report over a keeper's book has its cause.
+  pub record TellsOverList (old new : KeeperValue S) (failed : Type 0) : Type 0 where
+    pub forgets : ForgetsNoFault g old new
+    pub numbered : (b : ActState) (told : List Told) → Stands g (MayBe b told) old → StoresNumbers g old → StoresNumbers g new
+    pub cause : IsClean g new → (b : ActState) (told : List Told) → Stands g (MayBe b told) old → IsSome old.book → StoresNumbers g old → failed
+        → (x : ActState) × MayBe b told x × HasWorkCause g old new x
 
   -- a new book of the period that the texts name stands, with what was told since; and whatever a crash leaves has hidden row numbers
   -- 1, 2, 3 and so on

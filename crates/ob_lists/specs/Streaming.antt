@@ -6,19 +6,19 @@ use Rattle.ob_base.specs.declared.stop.Fault.TheVariants.{OutOfMemory, Store, Re
 use Rattle.ob_csv.specs.Rows.{rows_of}
 use Rattle.ob_book.specs.Acts.{ActState, Referenced, Reply, act, answer}
 use Rattle.ob_import.specs.Imports.{Import, Imports}
-use Rattle.ob_requests.specs.Continue.{interim_text}
-use Rattle.ob_requests.specs.Message.{Message, IsRefused, ReadsKnown, ReadsMessage, path_of}
-use Rattle.ob_requests.specs.Reading.{AfterHead}
-use Rattle.ob_requests.specs.Stream.{AfterKnown, Requests, ends}
-use Rattle.ob_requests.specs.declared.framing.HeadRefusal.{HeadRefusal}
-use Rattle.ob_requests.specs.declared.framing.Method.{Method}
-use Rattle.ob_requests.specs.declared.framing.Method.TheVariants.{Get, Post}
-use Rattle.ob_replies.specs.declared.status.Status.TheVariants as statuses
-use Rattle.ob_routes.specs.Answering.{body_rows}
-use Rattle.ob_routes.specs.Answers.{Answer, Answers, SaysCommand, answer_text, bookless}
-use Rattle.ob_routes.specs.Routes.{route_of}
-use Rattle.ob_routes.specs.declared.routes.Route.{Route}
-use Rattle.ob_routes.specs.declared.routes.Route.TheVariants as routes
+use Rattle.ob_http_requests.specs.Continue.{interim_text}
+use Rattle.ob_http_requests.specs.Message.{Message, IsRefused, ReadsKnown, ReadsMessage, path_of}
+use Rattle.ob_http_requests.specs.Reading.{AfterHead}
+use Rattle.ob_http_requests.specs.Stream.{AfterKnown, Requests, ends}
+use Rattle.ob_http_requests.specs.declared.framing.HeadRefusal.{HeadRefusal}
+use Rattle.ob_http_requests.specs.declared.framing.Method.{Method}
+use Rattle.ob_http_requests.specs.declared.framing.Method.TheVariants.{Get, Post}
+use Rattle.ob_http_replies.specs.declared.status.Status.TheVariants as statuses
+use Rattle.ob_http_routes.specs.Answering.{body_rows}
+use Rattle.ob_http_routes.specs.Answers.{Answer, Answers, SaysCommand, answer_text, bookless}
+use Rattle.ob_http_routes.specs.Routes.{route_of}
+use Rattle.ob_http_routes.specs.declared.routes.Route.{Route}
+use Rattle.ob_http_routes.specs.declared.routes.Route.TheVariants as routes
 use Rattle.ob_desk.specs.Exchanges.{AnswersAt, Replies, ending_count, ending_text, refusal_text, unavailable_text}
 use Rattle.ob_desk.specs.Serving.{IsFront, WritesHead}
 use Rattle.ob_desk.specs.declared.stream.Served.{Served}

@@ -1,7 +1,9 @@
 //! What is shown of a book after any list of calls.
-ghost use Rattle.std.specs.Prelude.{[], List, IfOk, IfSome};
+ghost use Rattle.std.specs.Prelude.{◌≡◌, ◌↔◌, [], List, IsNone, IfOk, IfErr, IfSome};
+ghost use Rattle.ob_base.specs.Stop.{out_of_memory};
 ghost use Rattle.ob_book.specs.Acts.{ActState};
 ghost use Rattle.ob_store.specs.Keepers.{IsClean, KeeperValue};
+ghost use Rattle.ob_headline.specs.Headline.{HasNoAmount};
 ghost use Rattle.ob_lists.specs.Standing.{MayBe, Stands, Told};
 ghost use Rattle.ob_lists.specs.Going.{Goes};
 ghost use Rattle.ob_lists.specs.Headline.{IsShownAfter, LoadsAndShows};
@@ -18,16 +20,19 @@ use ob_sweep::Timeline;
 
 /// Shows the book of a keeper after any list of calls that began with a book, such as a new one. What
 /// is shown is the headline of one book: the calls may have led to it, the keeper has it and its
-/// store keeps it, and it has each acknowledged command.
+/// store keeps it, and it has each acknowledged command. `None` exactly if the keeper has no book,
+/// or the book keeps no amount under such a key. Fails only if an allocation fails.
 pub fn show<S: Alter, T: Timeline>(
     keeper: &Keeper<S, T>,
     dim: Dim,
     key: u16,
     which: Which,
 ) -> Result<Option<Shown>, Stop>
-    ensures { (b : ActState) (told : List Told) → Stands S.Store (MayBe b told) keeper.now
+    ensures shows { (b : ActState) (told : List Told) → Stands S.Store (MayBe b told) keeper.now
         → IfOk result (λ shown. IfSome shown
         (IsShownAfter S.Store b told keeper.now dim key which)) }
+    ensures none { IfOk result (λ shown. IsNone shown ↔ HasNoAmount keeper.now.book dim key) }
+    ensures err { IfErr result (λ stop. stop ≡ out_of_memory) }
 {
     next_law();
     told_law();

@@ -1,9 +1,9 @@
 //! Laws on lists of calls. They do nothing when they run.
 ghost use Rattle.ob_lists.specs.Going.{JoinLaw, RestartLaw, RowsLaw, StreamsLaw, ToldLaw, WrittenLaw};
 
-use ob_parts::upgrade_law;
-use ob_requests::one_request;
-use ob_routes::answers_law;
+use ob_http_requests::one_request;
+use ob_http_routes::answers_law;
+use ob_sql_check::upgrade_law;
 use ob_store::Alter;
 
 /// A process may end at any moment: a `Keeper` over what the crash left of its store goes on from

@@ -20,5 +20,6 @@ pub use headline::{load_and_show, show};
 pub use laws::{join_law, restart_law, told_law};
 pub use lists::{
     Restart, act_create, act_import_restart_load, act_load_load, create_act_restart_load,
-    create_restart_load, migrate_load_audit, migrate_restart_migrate_load,
+    create_import_restart_load, create_restart_load, migrate_load_audit,
+    migrate_restart_migrate_load,
 };

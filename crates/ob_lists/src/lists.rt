@@ -12,9 +12,9 @@ use crate::laws::restart_law;
 use ob_base::{Ref, Stop};
 use ob_command::Command;
 use ob_import::{ImportFault, ImportReport};
+use ob_sql_rows::Table;
 use ob_store::{Alter, Keeper, Reply, crash_law, load_law};
 use ob_sweep::Timeline;
-use ob_tables::Table;
 use std::alloc::Global;
 
 /// The end of a process, and a `Keeper` that another process makes over what the first one left.
@@ -163,4 +163,34 @@ pub fn act_import_restart_load<S: Alter, R: Alter, T: Timeline, C: Restart<S, R,
     let mut next = crash.restart(keeper);
     let found = load(&mut next);
     (sent, done, next, found)
+}
+
+/// A new book, an import, a crash and a load. If the book was created, it exists afterwards, with
+/// what the import may have made of it, and every state that a crash may leave has the hidden row
+/// numbers 1, 2, 3 and so on. So if the next command ends in a store fault, that fault has a cause,
+/// as the contract of `act` states.
+pub fn create_import_restart_load<S: Alter, R: Alter, T: Timeline, C: Restart<S, R, T>>(
+    alloc: Global,
+    mut keeper: Keeper<S, T>,
+    crash: &mut C,
+    first: &[u8],
+    days: u16,
+    zone: &[u8],
+    text: &[u8],
+) -> (
+    Result<(), Stop>,
+    Result<ImportReport, ImportFault>,
+    Keeper<R, T>,
+)
+    ensures { IsClean R.Store result.2 → OnOk result.0
+        (BegunNumbered R.Store first.now days zone.now
+        (told_by_import (Some (rows_of text.now)) result.1) result.2) }
+{
+    restart_law::<S, R>();
+    crash_law::<S, R>();
+    let made = keeper.create(first, days, zone);
+    let done = import_text(alloc, text, &mut keeper);
+    let mut next = crash.restart(keeper);
+    let _ = load(&mut next);
+    (made, done, next)
 }

@@ -5,7 +5,7 @@
 //! the changes between two lists of amounts are their differences, each once and in order; that an
 //! outage interval's amounts are its customer-seconds, second by second and customer by customer;
 //! and that a change's rows turn the old amounts into the new ones, although only differing
-//! intervals are examined. Used by `ob_json`, `ob_replies`, `ob_state` and crates above them.
+//! intervals are examined. Used by `ob_json`, `ob_http_replies`, `ob_state` and crates above them.
 #![tactic(auto)]
 
 mod difference;

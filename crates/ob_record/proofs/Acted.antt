@@ -23,15 +23,15 @@ use Rattle.ob_state.specs.declared.resolved.Resolved.{Resolved}
 use Rattle.ob_state.specs.declared.resolved.Resolved.TheVariants as resolved
 use Rattle.ob_book.specs.Acts.{ActState, PeriodStays, Referenced, StateIsOfCommands, number_of, take_on}
 use Rattle.ob_book.specs.Books.{ArePosted}
-use Rattle.ob_tables.specs.Rows.{Columns, Tables, command_row, moved_row, tree_of}
-use Rattle.ob_tables.specs.Rules.{IsShort, LacksName, LetsCommand}
-use Rattle.ob_tables.specs.declared.table.Table.{Table}
-use Rattle.ob_tables.specs.declared.table.Table.TheVariants as tables
-use Rattle.ob_commit.specs.declared.act.Act.{Act}
-use Rattle.ob_commit.specs.Acts.{CanWrite, LetsAct, NeedsRows, with_act, with_command}
-use Rattle.ob_commit.specs.Amounts.{all_keys, amount_rows}
-use Rattle.ob_commit.specs.Changing.{rows_by}
-use Rattle.ob_commit.specs.Moves.{CanMove, LetsMoves, moved_to, with_move, with_moves}
+use Rattle.ob_sql_rows.specs.Rows.{Columns, Tables, command_row, moved_row, tree_of}
+use Rattle.ob_sql_rows.specs.Rules.{IsShort, LacksName, LetsCommand}
+use Rattle.ob_sql_rows.specs.declared.table.Table.{Table}
+use Rattle.ob_sql_rows.specs.declared.table.Table.TheVariants as tables
+use Rattle.ob_sql_write.specs.declared.act.Act.{Act}
+use Rattle.ob_sql_write.specs.Acts.{CanWrite, LetsAct, NeedsRows, with_act, with_command}
+use Rattle.ob_sql_write.specs.Amounts.{all_keys, amount_rows}
+use Rattle.ob_sql_write.specs.Changing.{rows_by}
+use Rattle.ob_sql_write.specs.Moves.{CanMove, LetsMoves, moved_to, with_move, with_moves}
 use Rattle.ob_record.specs.Tables.{moved_rows, numbered, row_of_command, rows_of_moves, tables_of}
 use Rattle.ob_record.specs.Reached.{IsReached}
 use Rattle.ob_record.specs.Leading.{HaveParts, LeadsParts, Records}

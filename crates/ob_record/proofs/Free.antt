@@ -11,8 +11,8 @@ use Rattle.sqlite_trees.proofs.ListLemmas.{all-map, all-permutation, all_weaker}
 use Rattle.ob_sheet.specs.declared.Entry.{Entry}
 use Rattle.ob_sheet.specs.Order.{entry_of}
 use Rattle.ob_sheet.specs.Sheet.{AreNumbered}
-use Rattle.ob_tables.specs.Rows.{Columns, is_key, entry_row}
-use Rattle.ob_tables.specs.Rules.{IsShort, IsShortValue}
+use Rattle.ob_sql_rows.specs.Rows.{Columns, is_key, entry_row}
+use Rattle.ob_sql_rows.specs.Rules.{IsShort, IsShortValue}
 use Rattle.ob_record.specs.Tables.{numbered, present}
 use Rattle.ob_record.proofs.Keyed.{key_is}
 use Rattle.ob_record.proofs.Listed.{AreNumberedFrom, all_passing, numbered_rest, one_entry}

@@ -17,8 +17,8 @@ use Rattle.ob_state.specs.State.{BookState}
 use Rattle.ob_state.specs.Next.{next}
 use Rattle.ob_state.specs.Amounts.{amount, moves}
 use Rattle.ob_book.specs.Acts.{ActState, PeriodStays, Referenced, number_of}
-use Rattle.ob_tables.specs.Rows.{is_key, is_reference, moved_row}
-use Rattle.ob_commit.specs.Amounts.{all_keys, amount_row, amount_rows}
+use Rattle.ob_sql_rows.specs.Rows.{is_key, is_reference, moved_row}
+use Rattle.ob_sql_write.specs.Amounts.{all_keys, amount_row, amount_rows}
 use Rattle.ob_record.specs.Tables.{moved_rows, numbered, row_of_command, rows_of_moves}
 use Rattle.ob_record.proofs.Free.{any_numbered, none_append, none_found, not_mapped, number_free}
 use Rattle.ob_record.proofs.Keyed.{key_is, name_is}

@@ -12,7 +12,7 @@ use Rattle.sqlite_schema.specs.Rules.{equal}
 use Rattle.sqlite.specs.Order.{column}
 use Rattle.sqlite.specs.Collation.TheVariants.{Binary}
 use Rattle.sqlite.specs.declared.types.Value.TheVariants.{Text}
-use Rattle.ob_tables.specs.Rows.{Columns, number, is_key, is_reference}
+use Rattle.ob_sql_rows.specs.Rows.{Columns, number, is_key, is_reference}
 
 truth_is : (b : Bool) → is_true (from_truth (Some b)) ≡ b
 truth_is true = refl

@@ -25,10 +25,10 @@ use Rattle.ob_state.specs.Resolved.{next_by, CanTake, IsCorrection, IsDeviceToJo
 use Rattle.ob_state.specs.declared.resolved.Resolved.{Resolved}
 use Rattle.ob_state.specs.declared.resolved.Resolved.TheVariants as resolved
 use Rattle.ob_state.proofs.Kept.{section_within}
-use Rattle.ob_tables.specs.Rows.{Columns, Tables, HasCustomer, HasEntry, is_key, is_reference, change_where, with_change, with_table, cause_row, node_row, device_row, customer_row, entry_row, mark_row, relive, serve, correct, withdraw}
-use Rattle.ob_tables.specs.Rules.{HasKey, LetsWithdrawn}
-use Rattle.ob_tables.specs.declared.table.Table.TheVariants.{Cause, Node, Device, Life, Customer, Entry, Mark}
-use Rattle.ob_tables.proofs.Identifiers.{short_crew}
+use Rattle.ob_sql_rows.specs.Rows.{Columns, Tables, HasCustomer, HasEntry, is_key, is_reference, change_where, with_change, with_table, cause_row, node_row, device_row, customer_row, entry_row, mark_row, relive, serve, correct, withdraw}
+use Rattle.ob_sql_rows.specs.Rules.{HasKey, LetsWithdrawn}
+use Rattle.ob_sql_rows.specs.declared.table.Table.TheVariants.{Cause, Node, Device, Life, Customer, Entry, Mark}
+use Rattle.ob_sql_rows.proofs.Identifiers.{short_crew}
 use Rattle.ob_record.specs.Tables.{numbered, present, row_of_life}
 use Rattle.ob_record.specs.Leading.{HaveParts, LeadsParts}
 use Rattle.ob_record.proofs.Free.{any_map, any_numbered, any_present, entry_short, next_entry_free, none_found, number_free, number_there, place_free, place_there}

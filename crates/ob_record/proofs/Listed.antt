@@ -15,7 +15,7 @@ use Rattle.ob_cust.proofs.Rolls.{AreRising, rising_head, rising_tail}
 use Rattle.ob_sheet.specs.declared.Entry.{Entry}
 use Rattle.ob_sheet.specs.Order.{entry_of}
 use Rattle.ob_sheet.specs.Sheet.{AreNumbered}
-use Rattle.ob_tables.specs.Rows.{Columns, is_key, change_where}
+use Rattle.ob_sql_rows.specs.Rows.{Columns, is_key, change_where}
 use Rattle.ob_record.specs.Tables.{numbered, present}
 
 -- ---- one element more

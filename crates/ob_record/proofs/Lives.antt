@@ -4,7 +4,7 @@ use Rattle.std.proofs.lemmas.Bool.Decides.{nat_tests}
 use Rattle.ob_base.specs.declared.life.Life.{Life as ALife}
 use Rattle.ob_net.specs.Network.{with_life_at}
 use Rattle.ob_net.specs.declared.net.Device.{Device as NetDevice}
-use Rattle.ob_tables.specs.Rows.{Columns, is_key, change_where, relive, device_row, life_row}
+use Rattle.ob_sql_rows.specs.Rows.{Columns, is_key, change_where, relive, device_row, life_row}
 use Rattle.ob_record.specs.Tables.{numbered, row_of_life}
 use Rattle.ob_record.proofs.Keyed.{key_is}
 

@@ -10,7 +10,7 @@ use Rattle.std.proofs.lemmas.List.Sorted.{All-permutation, length_permutation}
 use Rattle.sqlite.specs.Order.{column}
 use Rattle.ob_base.specs.declared.stop.Refusal.{Refusal}
 use Rattle.ob_base.specs.declared.stop.Refusal.TheVariants.{Full}
-use Rattle.ob_tables.specs.Rows.{Columns, number}
+use Rattle.ob_sql_rows.specs.Rows.{Columns, number}
 use Rattle.ob_command.specs.Commands.{BodiesDiffer, body_text}
 use Rattle.ob_state.specs.Refusals.{first, if_full, refusal, refusals, refuse_if}
 use Rattle.ob_book.specs.Acts.{ActState, Referenced, StateIsOfCommands, act, acts, is_accepted, number_of, start, take_on}

@@ -6,8 +6,8 @@ use Rattle.ob_net.specs.Network.{Network}
 use Rattle.ob_sheet.specs.declared.Entry.{Entry as SheetEntry}
 use Rattle.ob_cust.specs.declared.Customer.{Customer as RollCustomer}
 use Rattle.ob_state.specs.State.{BookState}
-use Rattle.ob_tables.specs.Rows.{Columns, Tables, with_table, cause_row, node_row, device_row, customer_row, entry_row, mark_row}
-use Rattle.ob_tables.specs.declared.table.Table.TheVariants.{Cause, Node, Device, Life, Customer, Entry, Mark}
+use Rattle.ob_sql_rows.specs.Rows.{Columns, Tables, with_table, cause_row, node_row, device_row, customer_row, entry_row, mark_row}
+use Rattle.ob_sql_rows.specs.declared.table.Table.TheVariants.{Cause, Node, Device, Life, Customer, Entry, Mark}
 use Rattle.ob_record.specs.Tables.{numbered, present, row_of_life}
 use Rattle.ob_record.specs.Leading.{HaveParts}
 

@@ -21,10 +21,10 @@ use Rattle.ob_post.specs.declared.Dim.{Dim}
 use Rattle.ob_post.specs.declared.Dim.TheVariants.{Cause, Feeder, Day}
 use Rattle.ob_post.specs.declared.Moved.{Moved}
 use Rattle.ob_post.proofs.Keying.{same_dim}
-use Rattle.ob_tables.specs.Rows.{Tables, number, posting_row, is_posting, with_amount, HasPosting}
-use Rattle.ob_tables.specs.declared.table.Table.TheVariants as tables
-use Rattle.ob_commit.specs.Moves.{moved_to, with_move, with_moves, HasRows}
-use Rattle.ob_commit.specs.Amounts.{all_keys, amount_row}
+use Rattle.ob_sql_rows.specs.Rows.{Tables, number, posting_row, is_posting, with_amount, HasPosting}
+use Rattle.ob_sql_rows.specs.declared.table.Table.TheVariants as tables
+use Rattle.ob_sql_write.specs.Moves.{moved_to, with_move, with_moves, HasRows}
+use Rattle.ob_sql_write.specs.Amounts.{all_keys, amount_row}
 
 truth_is : (b : Bool) → is_true (from_truth (Some b)) ≡ b
 truth_is true = refl

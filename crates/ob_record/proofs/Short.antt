@@ -12,8 +12,8 @@ use Rattle.ob_base.specs.Identifier.{is_identifier}
 use Rattle.ob_command.specs.Commands.{IsCommand, IsName, IsCrew, act_text, body_text, normal_text, until_text, words}
 use Rattle.ob_command.specs.declared.command.Command.{Command}
 use Rattle.ob_command.specs.declared.command.Command.TheVariants.{Cause, Bus, Section, Device, Life, Connect, Revise, Switch, Correct, Withdraw, Mark, Unmark}
-use Rattle.ob_tables.specs.Rules.{IsShort}
-use Rattle.ob_tables.proofs.Identifiers.{identifier_long}
+use Rattle.ob_sql_rows.specs.Rules.{IsShort}
+use Rattle.ob_sql_rows.proofs.Identifiers.{identifier_long}
 
 -- a reference is short
 pub short_reference : (reference : List ℕ) → is_identifier 40 reference ≡ true → IsShort reference

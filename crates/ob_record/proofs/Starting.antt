@@ -12,9 +12,9 @@ use Rattle.ob_state.specs.Amounts.{amount}
 use Rattle.ob_state.specs.State.{BookState, empty_book}
 use Rattle.ob_state.specs.Next.{next}
 use Rattle.ob_book.specs.Acts.{ActState, PeriodStays, Referenced, StateIsOfCommands, act, acts, of_commands, start, take_on}
-use Rattle.ob_tables.specs.Rows.{Columns, cause_row, mark_row, posting_row}
-use Rattle.ob_tables.specs.declared.table.Table.TheVariants.{Meta, Cause, Node, Device, Life, Customer, Entry, Mark, Command, Moved, Posting}
-use Rattle.ob_commit.specs.Amounts.{all_keys, amount_row}
+use Rattle.ob_sql_rows.specs.Rows.{Columns, cause_row, mark_row, posting_row}
+use Rattle.ob_sql_rows.specs.declared.table.Table.TheVariants.{Meta, Cause, Node, Device, Life, Customer, Entry, Mark, Command, Moved, Posting}
+use Rattle.ob_sql_write.specs.Amounts.{all_keys, amount_row}
 use Rattle.ob_record.specs.Tables.{present}
 use Rattle.ob_record.specs.Reached.{AcceptedIsReached, IsReached, ReachedCounts, ReachedIsOfCommands, StartHasFirstRows, StartIsReached}
 

@@ -1,16 +1,16 @@
 -- What the rows that a command changes, and all its rows, make of the tables of a book.
 use Rattle.std.specs.Prelude.{◌≡◌, [], None}
 use Rattle.std.specs.List.Sorted.{IsPermutation}
-use Rattle.ob_tables.specs.Rows.{Tables}
-use Rattle.ob_tables.specs.declared.table.Table.{Table}
-use Rattle.ob_tables.specs.declared.table.Table.TheVariants.{Meta, Cause, Node, Device, Life, Customer, Entry, Mark}
+use Rattle.ob_sql_rows.specs.Rows.{Tables}
+use Rattle.ob_sql_rows.specs.declared.table.Table.{Table}
+use Rattle.ob_sql_rows.specs.declared.table.Table.TheVariants.{Meta, Cause, Node, Device, Life, Customer, Entry, Mark}
 use Rattle.ob_post.specs.Postings.{PostedAmounts}
 use Rattle.ob_state.specs.State.{BookState}
 use Rattle.ob_state.specs.declared.resolved.Resolved.{Resolved}
 use Rattle.ob_book.specs.Acts.{ActState, Referenced, number_of, take_on}
-use Rattle.ob_commit.specs.declared.act.Act.{Act}
-use Rattle.ob_commit.specs.Changing.{HasSmallSeconds, LetsRow, NeedsRow, rows_by}
-use Rattle.ob_commit.specs.Acts.{CanWrite, LetsAct, NeedsRows, with_act}
+use Rattle.ob_sql_write.specs.declared.act.Act.{Act}
+use Rattle.ob_sql_write.specs.Changing.{HasSmallSeconds, LetsRow, NeedsRow, rows_by}
+use Rattle.ob_sql_write.specs.Acts.{CanWrite, LetsAct, NeedsRows, with_act}
 use Rattle.ob_record.specs.Naming.{IsReferenced}
 use Rattle.ob_record.specs.Tables.{tables_of}
 

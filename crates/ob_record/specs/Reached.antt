@@ -4,10 +4,10 @@ use Rattle.ob_time.specs.Calendar.{Calendar, day_count}
 use Rattle.ob_time.specs.Dates.{day_text}
 use Rattle.ob_time.specs.Period.{IsPeriodText}
 use Rattle.ob_book.specs.Acts.{ActState, Referenced, acts, is_accepted, of_commands, start, take_on}
-use Rattle.ob_tables.specs.Rows.{Tables, meta_row, cause_row, node_row}
-use Rattle.ob_tables.specs.declared.table.Table.{Table}
-use Rattle.ob_tables.specs.declared.table.Table.TheVariants.{Meta, Cause, Node, Device, Life, Customer, Entry, Mark, Command, Moved, Posting}
-use Rattle.ob_commit.specs.Amounts.{amount_rows}
+use Rattle.ob_sql_rows.specs.Rows.{Tables, meta_row, cause_row, node_row}
+use Rattle.ob_sql_rows.specs.declared.table.Table.{Table}
+use Rattle.ob_sql_rows.specs.declared.table.Table.TheVariants.{Meta, Cause, Node, Device, Life, Customer, Entry, Mark, Command, Moved, Posting}
+use Rattle.ob_sql_write.specs.Amounts.{amount_rows}
 use Rattle.ob_record.specs.Tables.{tables_of}
 
 -- its period is the one that its first date, its days and its zone name; and its commands, each accepted in its turn under

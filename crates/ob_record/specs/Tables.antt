@@ -12,10 +12,10 @@ use Rattle.ob_state.specs.State.{BookState, empty_book}
 use Rattle.ob_state.specs.Next.{next}
 use Rattle.ob_state.specs.Amounts.{amount, moves}
 use Rattle.ob_book.specs.Acts.{ActState, Referenced}
-use Rattle.ob_tables.specs.declared.table.Table.{Table}
-use Rattle.ob_tables.specs.Rows.{Columns, Tables, shown, tree_of, meta_row, cause_row, node_row, device_row, life_row, customer_row, entry_row, mark_row, command_row, moved_row}
-use Rattle.ob_tables.specs.declared.table.Table.TheVariants.{Meta, Cause, Node, Device, Life, Customer, Entry, Mark, Command, Moved, Posting}
-use Rattle.ob_commit.specs.Amounts.{amount_rows}
+use Rattle.ob_sql_rows.specs.declared.table.Table.{Table}
+use Rattle.ob_sql_rows.specs.Rows.{Columns, Tables, shown, tree_of, meta_row, cause_row, node_row, device_row, life_row, customer_row, entry_row, mark_row, command_row, moved_row}
+use Rattle.ob_sql_rows.specs.declared.table.Table.TheVariants.{Meta, Cause, Node, Device, Life, Customer, Entry, Mark, Command, Moved, Posting}
+use Rattle.ob_sql_write.specs.Amounts.{amount_rows}
 
 -- the rows that a table of these trees shows, in some order
 abbrev pub Shows : Trees → Table → List Columns → Type 0

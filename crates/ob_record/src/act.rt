@@ -10,14 +10,14 @@ ghost use Rattle.ob_state.specs.Next.{next};
 ghost use Rattle.ob_book.specs.Acts.{ActState};
 ghost use Rattle.ob_book.specs.Books.{ArePosted};
 ghost use Rattle.ob_book.specs.Plans.{IsPlan};
-ghost use Rattle.ob_commit.specs.Acts.{CanWrite};
+ghost use Rattle.ob_sql_write.specs.Acts.{CanWrite};
 ghost use Rattle.ob_record.specs.Leading.{LeadsParts, Records};
 ghost use Rattle.ob_record.specs.Reached.{AcceptedIsReached, IsReached, ReachedCounts, ReachedIsOfCommands};
 ghost use Rattle.ob_record.specs.Reached.{StartHasFirstRows, StartIsReached};
 
 use ob_book::{Book, Plan, acts_law, next_law};
-use ob_commit::Act;
 use ob_post::laws::move_laws;
+use ob_sql_write::Act;
 use ob_state::Resolved;
 use ob_sweep::Timeline;
 

@@ -1,7 +1,7 @@
 //! The rows of a book: the content of its eleven tables.
 //!
 //! Defines what the tables hold of the accepted commands, and how each further command changes
-//! them. Promises that the rows determine the commands. `ob_compare`, `ob_parts`, `ob_store`,
+//! them. Promises that the rows determine the commands. `ob_sql_read`, `ob_sql_check`, `ob_store`,
 //! `ob_import` and `ob_desk` use this crate.
 #![tactic(auto)]
 

@@ -1,5 +1,5 @@
 -- What the blocks of a section add to figures, block by block.
-use Rattle.std.proofs.Common.{◌≡◌, ℕ, ◌+◌, ◌*◌, ◌^◌, ◌<◌, ◌≤◌, cond, Bool, true, false, List, [], ◌∷◌, length, get_or, take, map, slice_index, nat_le, refl, sym, ◌∙◌, ap, mul-le-mul, arith}
+use Rattle.std.proofs.Common.{◌≡◌, ℕ, ◌+◌, ◌*◌, ◌^◌, ◌<◌, ◌≤◌, cond, Bool, true, false, List, length, get_or, take, slice_index, nat_le, refl, ◌∙◌, ap, mul-le-mul, arith}
 use Rattle.std.specs.List.{sum_by}
 use Rattle.std.proofs.lemmas.List.Sums.{sum_by_more, sum_by_more_le, sum_by-take-le}
 use Rattle.ob_cust.specs.declared.SectionBlock.{SectionBlock}

@@ -1,8 +1,15 @@
 mod Added
 mod Bounds
+mod CauseSums
+mod CustomerSums
+mod DaySums
+mod Grouping
 mod Growing
+mod MonthSums
+mod Parting
 mod Prefixes
 mod Rows
+mod Shares
 mod Summed
 mod Tallied
 mod Texts

@@ -1,6 +1,6 @@
 -- The figures of the customers of the first sections, and of one section more.
 use Rattle.std.proofs.Common.{◌≡◌, ℕ, ◌+◌, ◌*◌, ◌<◌, ◌≤◌, ◌==◌, Bool, true, false, cond, nat_le, nat_lt, List, [], ◌∷◌, Option, inl, inr, length, map, get_or, slice_index, refl, sym, ◌∙◌, ap, ap₂, eqb-true, arith}
-use Rattle.std.specs.List.{All, filter, count_by, sum_by, range_with_len}
+use Rattle.std.specs.List.{All, filter, sum_by, range_with_len}
 use Rattle.std.proofs.lemmas.Bool.{cases_Bool, cases_order, lt-ltb, le-ltb}
 use Rattle.std.proofs.lemmas.Bool.Decides.{nat_tests}
 use Rattle.std.proofs.lemmas.List.Elements.{All-tail}
@@ -24,7 +24,7 @@ use Rattle.ob_index.proofs.Parts.{parts_are_interruptions}
 use Rattle.ob_state.specs.State.{BookState}
 use Rattle.ob_state.specs.States.{AreRunsOf}
 use Rattle.ob_rows.specs.Rows.{customer_with}
-use Rattle.ob_selections.specs.Selections.{counts_of_selection, figures_of_selection, has_section, interrupted_beyond, is_selected, lasts_longer, length_of_selection, selected, service_of_selection}
+use Rattle.ob_selections.specs.Selections.{counts_of_selection, figures_of_selection, has_section, interrupted_beyond, is_selected, lasts_longer, length_of_selection, selected}
 use Rattle.ob_selections.specs.Sums.{AreMore, at_least}
 use Rattle.ob_selections.specs.Tallies.{customer_of, service_on, tally, tally_by_runs, tally_of}
 use Rattle.ob_selections.specs.declared.figures.Figures.{Figures}

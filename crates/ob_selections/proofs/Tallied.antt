@@ -1,6 +1,6 @@
 -- The tally of the parts of the first runs of a list that pass a test, and of one more.
-use Rattle.std.proofs.Common.{◌≡◌, ℕ, ◌+◌, ◌-◌, ◌^◌, ◌<◌, ◌≤◌, ◌&&◌, Bool, true, false, not, cond, List, length, get_or, take, sym, ◌∙◌, ap, arith}
-use Rattle.std.specs.List.{All, AllPairs, filter, count_by, sum_by}
+use Rattle.std.proofs.Common.{◌≡◌, ℕ, ◌+◌, ◌-◌, ◌<◌, ◌≤◌, ◌&&◌, Bool, true, false, not, cond, List, length, get_or, take, sym, ◌∙◌, ap, arith}
+use Rattle.std.specs.List.{filter, count_by, sum_by}
 use Rattle.std.proofs.lemmas.Bool.{and_parts, ltb-true}
 use Rattle.std.proofs.lemmas.List.Sums.{sum_by_more}
 use Rattle.ob_base.specs.Seconds.{seconds}

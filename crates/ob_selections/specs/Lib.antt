@@ -7,3 +7,4 @@ pub mod Lines
 pub mod Listed
 pub mod IndexText
 pub mod SelectionLaws
+pub mod SumLaws

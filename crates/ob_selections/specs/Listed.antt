@@ -1,4 +1,4 @@
--- The selections of a book by feeder, month, cause or section, each under its key.
+-- The selections of a book by feeder, month, day, cause or section, each under its key.
 use Rattle.std.specs.Prelude.{ℕ, ◌+◌, ◌-◌, ◌==◌, ◌||◌, Bool, not, List, Option, Some, None, codes, decimal, length, take, if◌then◌else◌}
 use Rattle.std.specs.List.{filter_map, prefix_len, range_with_len}
 use Rattle.std.specs.Option.{option_map}
@@ -12,7 +12,7 @@ use Rattle.ob_book.specs.Forecasts.{name_of_node}
 use Rattle.ob_book.specs.Views as views
 use Rattle.ob_selections.specs.Selections.{whole}
 use Rattle.ob_selections.specs.declared.selection.By.{By}
-use Rattle.ob_selections.specs.declared.selection.By.TheVariants.{Whole, Feeder, Month, Cause, Section}
+use Rattle.ob_selections.specs.declared.selection.By.TheVariants.{Whole, Feeder, Month, Day, Cause, Section}
 use Rattle.ob_selections.specs.declared.selection.Selection.{Selection}
 
 -- a key, and the selection that has it
@@ -54,11 +54,16 @@ abbrev pub month_selection : BookState → ℕ → ℕ → Option Keyed
 month_selection b longest day =
     if begins_month b day then Some (month_of b day, record (whole b All longest) { first = day; end = month_end b day }) else None
 
+-- the interruptions that begin on a day, over the customers served of the whole period
+abbrev pub day_selection : BookState → ℕ → ℕ → Option Keyed
+day_selection b longest day = Some (date_of b.period day, record (whole b All longest) { day = Some day })
+
 -- how many numbers there are to look at: of feeders, of days, of causes, of nodes
 abbrev pub places_of : BookState → By → ℕ
 places_of b Whole = 1
 places_of b Feeder = 256
 places_of b Month = day_count b.period
+places_of b Day = day_count b.period
 places_of b Cause = 64
 places_of b Section = length b.network.nodes
 
@@ -67,6 +72,7 @@ abbrev pub selection_at : BookState → By → ℕ → ℕ → Option Keyed
 selection_at b Whole longest n = Some (codes "whole", whole b All longest)
 selection_at b Feeder longest n = feeder_selection b longest n
 selection_at b Month longest n = month_selection b longest n
+selection_at b Day longest n = day_selection b longest n
 selection_at b Cause longest n = cause_selection b longest n
 selection_at b Section longest n = section_selection b longest n
 

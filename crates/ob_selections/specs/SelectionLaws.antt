@@ -1,5 +1,5 @@
 -- What the figures of selections add up to.
-use Rattle.std.specs.Prelude.{◌≡◌, ℕ}
+use Rattle.std.specs.Prelude.{◌≡◌}
 use Rattle.ob_index.specs.Counts.{period_length}
 use Rattle.ob_index.specs.declared.figures.Which.{Which}
 use Rattle.ob_state.specs.State.{BookState}

@@ -1,5 +1,5 @@
 -- Selections: which interruptions count, over which customers and days.
-use Rattle.std.specs.Prelude.{◌≤◌, ◌<◌, ℕ, ◌-◌, ◌==◌, ◌&&◌, Bool, true, false, not, nat_le, nat_lt, List, [], Option, None, length, map, if◌then◌else◌}
+use Rattle.std.specs.Prelude.{◌≤◌, ◌<◌, ℕ, ◌==◌, ◌&&◌, Bool, true, false, not, nat_le, nat_lt, List, [], Option, None, length, map, if◌then◌else◌}
 use Rattle.std.specs.List.{filter, sum_by, count_by, range_with_len}
 use Rattle.std.specs.Option.{option_map_or}
 use Rattle.ob_base.specs.Seconds.{seconds}
@@ -7,7 +7,7 @@ use Rattle.ob_base.specs.declared.interval.Interval.{Interval}
 use Rattle.ob_net.specs.Network.{home_feeder}
 use Rattle.ob_cust.specs.declared.Customer.{Customer}
 use Rattle.ob_cust.specs.Service.{in_service}
-use Rattle.ob_time.specs.Calendar.{bound_of, day_count}
+use Rattle.ob_time.specs.Calendar.{Calendar, bound_of, day_at, day_count, holds}
 use Rattle.ob_index.specs.Interruptions.{duration, interruptions, is_counted}
 use Rattle.ob_index.specs.declared.figures.Counts.{Counts}
 use Rattle.ob_index.specs.declared.figures.Which.{Which}
@@ -19,7 +19,7 @@ use Rattle.ob_selections.specs.declared.selection.Selection.{Selection}
 -- all interruptions that count among these, of all customers and days, where so many seconds are the longest momentary one
 abbrev pub whole : BookState → Which → ℕ → Selection
 whole b which longest =
-    record { feeder = None; section = None; cause = None; first = 0; end = day_count b.period; which = which; longest = longest }
+    record { feeder = None; section = None; cause = None; day = None; first = 0; end = day_count b.period; which = which; longest = longest }
 
 -- its days are days of the period, one or more
 pub record IsSelection (b : BookState) (x : Selection) : Type 0 where
@@ -54,10 +54,14 @@ has_section b x v = fits x.section v && fits_feeder x.feeder (home_feeder b.netw
 abbrev pub has_at : Interval → ℕ → Bool
 has_at i s = nat_le i.since s && nat_lt s i.until
 
--- an interruption of customers of the section begins on one of the days, has the cause, and counts
+-- the second lies on the day that is wanted, or any day is
+abbrev pub begins_on : Calendar → Option ℕ → ℕ → Bool
+begins_on period wanted s = option_map_or (λ day. holds (day_at period day) s) wanted true
+
+-- an interruption of customers of the section begins on one of the days, and on the one that is wanted, has the cause, and counts
 abbrev pub is_selected : BookState → Selection → ℕ → Interval → Bool
 is_selected b x v i =
-    has_at (days_of_selection b x) i.since && fits x.cause (posted_cause b v i.since) && is_counted b.period b.marks x.which i
+    has_at (days_of_selection b x) i.since && begins_on b.period x.day i.since && fits x.cause (posted_cause b v i.since) && is_counted b.period b.marks x.which i
 
 -- the interruptions of a customer that are selected
 abbrev pub selected : BookState → Selection → Customer → List Interval

@@ -5,7 +5,8 @@ ghost use Rattle.ob_net.specs.Network.{home_feeder};
 ghost use Rattle.ob_post.specs.SectionAmounts.{run_cause};
 ghost use Rattle.ob_rows.specs.Outages.{IsOutage};
 ghost use Rattle.ob_rows.specs.Rows.{posted_cause};
-ghost use Rattle.ob_selections.specs.Selections.{days_of_selection, fits as fits_number, fits_feeder as fits_home, has_at, has_section as has_customers, is_selected as is_among};
+ghost use Rattle.ob_time.specs.Calendar.{day_at, holds};
+ghost use Rattle.ob_selections.specs.Selections.{begins_on as begins_on_wanted, days_of_selection, fits as fits_number, fits_feeder as fits_home, has_at, has_section as has_customers, is_selected as is_among};
 
 use crate::selection::Selection;
 use ob_base::{Interval, Second};
@@ -13,6 +14,7 @@ use ob_book::Book;
 use ob_index::Which;
 use ob_sheet::Sheet;
 use ob_sweep::{Run, Timeline};
+use ob_time::Period;
 
 /// Whether the customers of a section are among those of a selection.
 pub fn has_section<T: Timeline>(book: &Book<T>, selection: &Selection, section: u16) -> bool
@@ -68,6 +70,7 @@ pub fn is_selected<T: Timeline>(
     ensures { result ≡ is_among book.now.state selection.now section interruption.now }
 {
     begins_within(days, interruption.since)
+        && begins_on(book.period(), selection.day, interruption.since)
         && fits_cause(selection.cause, cause_of(book.sheet(), run))
         && is_counted(book, interruption, selection.which)
 }
@@ -76,6 +79,25 @@ fn begins_within(days: &Interval, second: Second) -> bool
     ensures { result ≡ has_at days.now second }
 {
     days.since <= second && second < days.until
+}
+
+fn begins_on(period: &Period, wanted: Option<u16>, second: Second) -> bool
+    ensures { result ≡ begins_on_wanted period.now wanted second }
+{
+    match wanted {
+        Some(day) => lies_on(period, day, second),
+        None => true,
+    }
+}
+
+// Whether a second lies on a day.
+fn lies_on(period: &Period, day: u16, second: Second) -> bool
+    ensures { result ≡ holds (day_at period.now day) second }
+{
+    match period.day_bounds(day) {
+        Some((first, end)) => first <= second && second < end,
+        None => false,
+    }
 }
 
 // The cause that the entry of an outage interval has; 0 if no entry cut the section off.

@@ -1,7 +1,7 @@
 //! Indices as data: each a quotient of measures under a name.
 ghost use Rattle.std.specs.Prelude.{◌≡◌, ◌≤◌, ◌<◌, ◌^◌, ℕ, slice_index, slice_index_or};
 ghost use Rattle.ob_index.specs.Short.{IsShort};
-ghost use Rattle.ob_selections.specs.Formulas.{divided as divided_by, listed, unlisted, divisor as divisor_of, index_of as index_among, measured as measure_of, value_of as value_by};
+ghost use Rattle.ob_selections.specs.Formulas.{divided as divided_by, divisor as divisor_of, formula, index_of as index_among, listed, measured as measure_of, per_customer as for_each_served, unlisted, value_of as value_by};
 ghost use Rattle.ob_selections.specs.Sums.{AreAtMost};
 
 use crate::figures::Figures;
@@ -40,14 +40,31 @@ pub struct Formula {
     pub places: u8,
 }
 
+// A quotient of these parts.
+fn quotient(
+    numerator: Measure,
+    of_period: bool,
+    denominator: Measure,
+    scale: u8,
+    places: u8,
+) -> Formula
+    ensures { result ≡ formula numerator of_period denominator scale places }
+{
+    Formula {
+        numerator,
+        of_period,
+        denominator,
+        scale,
+        places,
+    }
+}
+
 // So many of a measure for each customer served, S / P.
-const PER_CUSTOMER: Formula = Formula {
-    numerator: Measure::Sustained,
-    of_period: true,
-    denominator: Measure::Service,
-    scale: 1,
-    places: 3,
-};
+fn per_customer(numerator: Measure) -> Formula
+    ensures { result ≡ for_each_served numerator }
+{
+    quotient(numerator, true, Measure::Service, 1, 3)
+}
 
 /// How many indices are listed.
 pub const LISTED: usize = 16;
@@ -59,119 +76,34 @@ pub fn listed_at(place: usize) -> (&'static str, Formula)
     ensures formula { result.1 ≡ (slice_index_or listed place unlisted).1 }
 {
     match place {
-        0 => ("saifi", PER_CUSTOMER),
+        0 => ("saifi", per_customer(Measure::Sustained)),
         1 => (
             "saidi",
-            Formula {
-                numerator: Measure::SustainedSeconds,
-                scale: 60,
-                ..PER_CUSTOMER
-            },
+            quotient(Measure::SustainedSeconds, true, Measure::Service, 60, 3),
         ),
         2 => (
             "caidi",
-            Formula {
-                numerator: Measure::SustainedSeconds,
-                of_period: false,
-                denominator: Measure::Sustained,
-                scale: 60,
-                ..PER_CUSTOMER
-            },
+            quotient(Measure::SustainedSeconds, false, Measure::Sustained, 60, 3),
         ),
         3 => (
             "caifi",
-            Formula {
-                of_period: false,
-                denominator: Measure::Interrupted(0),
-                ..PER_CUSTOMER
-            },
+            quotient(Measure::Sustained, false, Measure::Interrupted(0), 1, 3),
         ),
         4 => (
             "asai",
-            Formula {
-                numerator: Measure::Served,
-                of_period: false,
-                places: 5,
-                ..PER_CUSTOMER
-            },
+            quotient(Measure::Served, false, Measure::Service, 1, 5),
         ),
-        5 => (
-            "cemi_1",
-            Formula {
-                numerator: Measure::Interrupted(0),
-                ..PER_CUSTOMER
-            },
-        ),
-        6 => (
-            "cemi_2",
-            Formula {
-                numerator: Measure::Interrupted(1),
-                ..PER_CUSTOMER
-            },
-        ),
-        7 => (
-            "cemi_3",
-            Formula {
-                numerator: Measure::Interrupted(2),
-                ..PER_CUSTOMER
-            },
-        ),
-        8 => (
-            "cemi_4",
-            Formula {
-                numerator: Measure::Interrupted(3),
-                ..PER_CUSTOMER
-            },
-        ),
-        9 => (
-            "cemi_5",
-            Formula {
-                numerator: Measure::Interrupted(4),
-                ..PER_CUSTOMER
-            },
-        ),
-        10 => (
-            "cemi_6",
-            Formula {
-                numerator: Measure::Interrupted(5),
-                ..PER_CUSTOMER
-            },
-        ),
-        11 => (
-            "cemi_7",
-            Formula {
-                numerator: Measure::Interrupted(6),
-                ..PER_CUSTOMER
-            },
-        ),
-        12 => (
-            "cemi_8",
-            Formula {
-                numerator: Measure::Interrupted(7),
-                ..PER_CUSTOMER
-            },
-        ),
-        13 => (
-            "cemi_9",
-            Formula {
-                numerator: Measure::Interrupted(8),
-                ..PER_CUSTOMER
-            },
-        ),
-        14 => (
-            "cemi_10",
-            Formula {
-                numerator: Measure::Interrupted(9),
-                ..PER_CUSTOMER
-            },
-        ),
-        _ => (
-            "maifi",
-            Formula {
-                numerator: Measure::Momentary,
-                ..PER_CUSTOMER
-            },
-        ),
+        5 => ("cemi_1", per_customer(Measure::Interrupted(0))),
+        6 => ("cemi_2", per_customer(Measure::Interrupted(1))),
+        7 => ("cemi_3", per_customer(Measure::Interrupted(2))),
+        8 => ("cemi_4", per_customer(Measure::Interrupted(3))),
+        9 => ("cemi_5", per_customer(Measure::Interrupted(4))),
+        10 => ("cemi_6", per_customer(Measure::Interrupted(5))),
+        11 => ("cemi_7", per_customer(Measure::Interrupted(6))),
+        12 => ("cemi_8", per_customer(Measure::Interrupted(7))),
+        13 => ("cemi_9", per_customer(Measure::Interrupted(8))),
+        14 => ("cemi_10", per_customer(Measure::Interrupted(9))),
+        _ => ("maifi", per_customer(Measure::Momentary)),
     }
 }
 

@@ -1,13 +1,13 @@
-//! The selections of a book by feeder, month, cause or section, each under its key.
+//! The selections of a book by feeder, month, day, cause or section, each under its key.
 ghost use Rattle.std.specs.Prelude.{◌≡◌, ◌≤◌, ◌<◌, IfErr, IfOk, IfSome, Some, length, option_map};
 ghost use Rattle.ob_base.specs.Stop.{out_of_memory};
 ghost use Rattle.ob_book.specs.Views as views;
 ghost use Rattle.ob_index.specs.declared.figures.Which.TheVariants.{All};
 ghost use Rattle.ob_time.specs.Calendar.{day_count};
-ghost use Rattle.ob_selections.specs.Listed.{Keyed as AKeyed, cause_selection, feeder_selection, month_selection, places_of as count_of_places, section_selection, selection_at as keyed_at};
+ghost use Rattle.ob_selections.specs.Listed.{Keyed as AKeyed, cause_selection, day_selection, feeder_selection, month_selection, places_of as count_of_places, section_selection, selection_at as keyed_at};
 ghost use Rattle.ob_selections.specs.Selections.{IsSelection, whole};
 
-use crate::months::{begins_month, month_end, month_text};
+use crate::months::{begins_month, day_text, month_end, month_text};
 use crate::selection::{By, Selection};
 use itoa::Buffer;
 use ob_base::{Second, Stop};
@@ -20,7 +20,7 @@ use std::alloc::Global;
 /// A selection under a key.
 #[derive(Drop)]
 pub struct Keyed {
-    /// A feeder's number, a month, the name of a cause or a section, or `whole`.
+    /// A feeder's number, a month, a date, the name of a cause or a section, or `whole`.
     pub key: Vec<u8>,
     /// The selection, over all interruptions of its days.
     pub selection: Selection,
@@ -33,14 +33,14 @@ pub fn places_of<T: Timeline>(book: &Book<T>, by: By) -> u16
     match by {
         By::Whole => 1,
         By::Feeder => 256,
-        By::Month => book.period().days(),
+        By::Month | By::Day => book.period().days(),
         By::Cause => 64,
         By::Section => book.net().nodes(),
     }
 }
 
 /// The selection of a number, with this longest momentary interruption; `None` if there is no such
-/// feeder, month, cause or section. The error is a failed allocation.
+/// feeder, month, day, cause or section. The error is a failed allocation.
 pub fn selection_at<T: Timeline>(
     alloc: Global,
     book: &Book<T>,
@@ -59,6 +59,7 @@ pub fn selection_at<T: Timeline>(
         By::Whole => under_key(alloc, b"whole", whole_book(book, longest)),
         By::Feeder => feeder_at(alloc, book, longest, place as u8),
         By::Month => month_at(alloc, book, longest, place),
+        By::Day => day_at(alloc, book, longest, place),
         By::Cause => cause_at(alloc, book, longest, place as u8),
         By::Section => section_at(alloc, book, longest, place),
     }
@@ -73,6 +74,7 @@ fn whole_book<T: Timeline>(book: &Book<T>, longest: Second) -> Selection
         feeder: None,
         section: None,
         cause: None,
+        day: None,
         first: 0,
         end: book.period().days(),
         which: Which::All,
@@ -147,6 +149,28 @@ fn month_at<T: Timeline>(
         ..whole_book(book, longest)
     };
     let key = month_text(alloc, book, day)?;
+    Ok(Some(Keyed { key, selection }))
+}
+
+// The interruptions that begin on a day, over the customers served of the whole period.
+fn day_at<T: Timeline>(
+    alloc: Global,
+    book: &Book<T>,
+    longest: Second,
+    day: u16,
+) -> Result<Option<Keyed>, Stop>
+    requires { day < day_count book.now.state.period }
+    ensures keyed { IfOk result (λ keyed. option_map (λ k. (k.key.items, k.selection)) keyed
+        ≡ day_selection book.now.state longest day) }
+    ensures days { IfOk result (λ keyed. IfSome keyed
+        (λ k. IsSelection book.now.state k.selection)) }
+    ensures err { IfErr result (λ e. e ≡ out_of_memory) }
+{
+    let selection = Selection {
+        day: Some(day),
+        ..whole_book(book, longest)
+    };
+    let key = day_text(alloc, book, day)?;
     Ok(Some(Keyed { key, selection }))
 }
 

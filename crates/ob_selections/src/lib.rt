@@ -1,7 +1,7 @@
-//! Selections of interruptions: counts and indices of a feeder, a month, a cause or a section.
+//! Selections of interruptions: counts and indices of a feeder, a month, a day, a cause or a section.
 //!
 //! A selection names customers, days and causes. Counts the interruptions of a selection, and writes
-//! the indices of all feeders, months, causes or sections of a book as CSV. Promises that each
+//! the indices of all feeders, months, days, causes or sections of a book as CSV. Promises that each
 //! figure is the sum over the customers that the definitions state, each index its quotient in lowest
 //! terms, and which bytes the text has. `ob_jobs` uses this crate.
 #![tactic(auto)]
@@ -21,6 +21,6 @@ mod text;
 
 pub use counting::figures_of;
 pub use figures::Figures;
-pub use laws::selections_law;
+pub use laws::{selections_law, sums_law};
 pub use selection::{By, Selection};
 pub use text::indices_text;

@@ -1,6 +1,7 @@
-//! The calendar months of a period.
+//! The days and the calendar months of a period.
 ghost use Rattle.std.specs.Prelude.{◌≡◌, ◌≤◌, ◌<◌, ◌+◌, IfErr, IfOk};
 ghost use Rattle.ob_base.specs.Stop.{out_of_memory};
+ghost use Rattle.ob_index.specs.Table.{date_of};
 ghost use Rattle.ob_time.specs.Calendar.{day_count};
 ghost use Rattle.ob_selections.specs.Listed.{begins_month as begins_a_month, is_same_month as are_of_one_month, month_end as end_of_month, month_of};
 
@@ -11,6 +12,18 @@ use std::alloc::Global;
 
 // How many bytes of a date are its year and month, as in `2025-03-24`.
 const MONTH_BYTES: usize = 7;
+
+/// The date of a day, as `2025-03-24`. The error is a failed allocation.
+pub fn day_text<T: Timeline>(alloc: Global, book: &Book<T>, day: u16) -> Result<Vec<u8>, Stop>
+    requires { day < day_count book.now.state.period }
+    ensures date { IfOk result (λ text. text.items ≡ date_of book.now.state.period day) }
+    ensures err { IfErr result (λ e. e ≡ out_of_memory) }
+{
+    let date = book.period().date_text(day)?;
+    let mut text = Vec::new(alloc);
+    text.extend_from_slice(date.as_bytes())?;
+    Ok(text)
+}
 
 /// The month of a day, as `2025-03`. The error is a failed allocation.
 pub fn month_text<T: Timeline>(alloc: Global, book: &Book<T>, day: u16) -> Result<Vec<u8>, Stop>

@@ -11,6 +11,9 @@ pub struct Selection {
     pub section: Option<u16>,
     /// The cause of the interruptions; `None` for any.
     pub cause: Option<u8>,
+    /// The number of the day on which the interruptions begin; `None` for any. Customers are served
+    /// on all days from `first` to `end`, whatever this day is.
+    pub day: Option<u16>,
     /// The number of the first day, from 0. The first second of an interruption decides its day.
     pub first: u16,
     /// The number of the day after the last one.
@@ -30,6 +33,8 @@ pub enum By {
     Feeder,
     /// Calendar months.
     Month,
+    /// Days.
+    Day,
     /// Causes.
     Cause,
     /// Sections.

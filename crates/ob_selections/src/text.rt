@@ -1,4 +1,4 @@
-//! The indices of a book by feeder, month, cause or section, as CSV.
+//! The indices of a book by feeder, month, day, cause or section, as CSV.
 ghost use Rattle.std.specs.Prelude.{◌≡◌, ◌++◌, ◌<◌, IfErr, IfOk, OnOk};
 ghost use Rattle.std.specs.List.{flat_map};
 ghost use Rattle.ob_base.specs.Stop.{out_of_memory};
@@ -18,7 +18,7 @@ use std::alloc::Global;
 
 /// The indices of a book as CSV, where an interruption of at most `longest` seconds is momentary
 /// and a longer one is sustained: the names of the columns, and then two lines for each feeder,
-/// month, cause or section, over all interruptions and over those that don't begin on a major event
+/// month, day, cause or section, over all interruptions and over those that don't begin on a major event
 /// day. The error is a failed allocation.
 pub fn indices_text<T: Timeline>(
     alloc: Global,

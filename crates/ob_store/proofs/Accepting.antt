@@ -20,12 +20,12 @@ use Rattle.ob_state.specs.Refusals.{refusal}
 use Rattle.ob_state.specs.Next.{next}
 use Rattle.ob_state.specs.Amounts.{moves}
 use Rattle.ob_book.specs.Acts.{ActState, Referenced, act, answer, is_accepted, number_of, take_on}
-use Rattle.ob_tables.specs.Rows.{Tables, Holds}
-use Rattle.ob_tables.specs.Steps.{HasFailed, IsStoreFault}
-use Rattle.ob_tables.specs.declared.table.Table.{Table}
-use Rattle.ob_commit.specs.declared.act.Act.{Act}
-use Rattle.ob_commit.specs.Acts.{LetsAct, NeedsRows, with_act}
-use Rattle.ob_commit.specs.Keeps.{HasCommitCause, Keeps, KeepsEither, KeepsNumbers, IsSettled, Leaves, WasUndone}
+use Rattle.ob_sql_rows.specs.Rows.{Tables, Holds}
+use Rattle.ob_sql_rows.specs.Steps.{HasFailed, IsStoreFault}
+use Rattle.ob_sql_rows.specs.declared.table.Table.{Table}
+use Rattle.ob_sql_write.specs.declared.act.Act.{Act}
+use Rattle.ob_sql_write.specs.Acts.{LetsAct, NeedsRows, with_act}
+use Rattle.ob_sql_write.specs.Keeps.{HasCommitCause, Keeps, KeepsEither, KeepsNumbers, IsSettled, Leaves, WasUndone}
 use Rattle.ob_record.specs.Leading.{Records}
 use Rattle.ob_record.specs.Naming.{IsReferenced}
 use Rattle.ob_record.specs.Reached.{AcceptedIsReached}

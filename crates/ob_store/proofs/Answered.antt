@@ -6,7 +6,7 @@ use Rattle.sqlite_trees.specs.declared.store.Store.{Ghosts}
 use Rattle.sqlite.specs.Held.{Held, state}
 use Rattle.ob_base.specs.declared.stop.Stop.{Stop}
 use Rattle.ob_book.specs.Acts.{ActState, reply_of}
-use Rattle.ob_tables.specs.Steps.{IsStoreFault}
+use Rattle.ob_sql_rows.specs.Steps.{IsStoreFault}
 use Rattle.ob_store.specs.Keeping.{KeepsBook}
 use Rattle.ob_store.specs.Replying.{Replies, kept_reply}
 

@@ -14,8 +14,8 @@ use Rattle.ob_command.specs.Commands.{body_text}
 use Rattle.ob_command.specs.declared.command.Command.{Command}
 use Rattle.ob_state.specs.State.{BookState}
 use Rattle.ob_book.specs.Acts.{ActState, Referenced, act, answer, is_accepted, number_of, reply_of, take_on}
-use Rattle.ob_tables.specs.Steps.{HasFaultCause, IsStoreFault}
-use Rattle.ob_commit.proofs.Commits.{first_of_either}
+use Rattle.ob_sql_rows.specs.Steps.{HasFaultCause, IsStoreFault}
+use Rattle.ob_sql_write.proofs.Commits.{first_of_either}
 use Rattle.ob_record.specs.Tables.{tables_of}
 use Rattle.ob_record.specs.Naming.{IsReferenced}
 use Rattle.ob_record.specs.Reached.{AcceptedIsReached, IsReached}

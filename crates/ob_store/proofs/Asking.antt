@@ -18,28 +18,28 @@ use Rattle.ob_base.specs.Stop.{out_of_memory}
 use Rattle.ob_base.specs.declared.stop.Stop.{Stop}
 use Rattle.ob_base.specs.declared.stop.Stop.TheVariants.{Refused, Fault}
 use Rattle.ob_base.specs.declared.stop.Fault.TheVariants.{Store}
-use Rattle.ob_tables.specs.Creation.{old_schema}
-use Rattle.ob_tables.specs.Schema.{no_schema}
-use Rattle.ob_tables.specs.Rows.{Tables}
-use Rattle.ob_tables.specs.Steps.{HasFailed}
-use Rattle.ob_tables.specs.Versions.{HoldsIn, schema_of}
-use Rattle.ob_tables.specs.declared.version.Version.{Version}
-use Rattle.ob_tables.specs.declared.table.Table.TheVariants.{Meta}
-use Rattle.ob_tables.specs.declared.version.Version.TheVariants.{One, Two}
-use Rattle.ob_commit.specs.Keeps.{IsSettledIn, KeepsEitherIn, KeepsIn}
-use Rattle.ob_commit.proofs.Commits.{settled_as}
+use Rattle.ob_sql_rows.specs.Creation.{old_schema}
+use Rattle.ob_sql_rows.specs.Schema.{no_schema}
+use Rattle.ob_sql_rows.specs.Rows.{Tables}
+use Rattle.ob_sql_rows.specs.Steps.{HasFailed}
+use Rattle.ob_sql_rows.specs.Versions.{HoldsIn, schema_of}
+use Rattle.ob_sql_rows.specs.declared.version.Version.{Version}
+use Rattle.ob_sql_rows.specs.declared.table.Table.TheVariants.{Meta}
+use Rattle.ob_sql_rows.specs.declared.version.Version.TheVariants.{One, Two}
+use Rattle.ob_sql_write.specs.Keeps.{IsSettledIn, KeepsEitherIn, KeepsIn}
+use Rattle.ob_sql_write.proofs.Commits.{settled_as}
 use Rattle.ob_record.specs.Tables.{tables_of}
-use Rattle.ob_compare.specs.Faults.{HasNoMeaning, IsMissed, IsReadFault, bad_book}
-use Rattle.ob_compare.specs.Reading.{IsInputError}
-use Rattle.ob_compare.specs.Version.{HasVersion, IsOfBook}
-use Rattle.ob_tables.proofs.Failing.{not_run, stop_cause}
-use Rattle.ob_compare.specs.Listing.{IsListingOver}
-use Rattle.ob_compare.proofs.Asking.{missed, not_understood}
-use Rattle.ob_compare.proofs.Failing.{answered_over}
-use Rattle.ob_compare.proofs.Headings.{meta_listing, no_meaning}
-use Rattle.ob_compare.proofs.Listing.{still_then}
-use Rattle.ob_compare.proofs.Selects.{is_listing}
-use Rattle.ob_parts.specs.OldTables.{old_tables_of}
+use Rattle.ob_sql_read.specs.Faults.{HasNoMeaning, IsMissed, IsReadFault, bad_book}
+use Rattle.ob_sql_read.specs.Reading.{IsInputError}
+use Rattle.ob_sql_read.specs.Version.{HasVersion, IsOfBook}
+use Rattle.ob_sql_rows.proofs.Failing.{not_run, stop_cause}
+use Rattle.ob_sql_read.specs.Listing.{IsListingOver}
+use Rattle.ob_sql_read.proofs.Asking.{missed, not_understood}
+use Rattle.ob_sql_read.proofs.Failing.{answered_over}
+use Rattle.ob_sql_read.proofs.Headings.{meta_listing, no_meaning}
+use Rattle.ob_sql_read.proofs.Listing.{still_then}
+use Rattle.ob_sql_read.proofs.Selects.{is_listing}
+use Rattle.ob_sql_check.specs.OldTables.{old_tables_of}
 use Rattle.ob_store.specs.Differing.{NoneSo}
 use Rattle.ob_store.specs.Finding.{Finds}
 use Rattle.ob_store.specs.Keeping.{Answers, HasStoreCause, IsAnswer}

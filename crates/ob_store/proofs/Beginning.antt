@@ -15,15 +15,15 @@ use Rattle.ob_time.specs.Calendar.{Calendar, day_count}
 use Rattle.ob_time.specs.Dates.{day_text}
 use Rattle.ob_time.specs.Period.{IsPeriodText}
 use Rattle.ob_book.specs.Acts.{start}
-use Rattle.ob_tables.specs.Schema.{no_schema}
-use Rattle.ob_tables.specs.Rows.{Holds}
-use Rattle.ob_tables.specs.Rules.{IsShort}
-use Rattle.ob_tables.specs.Steps.{HasFailed, IsStoreFault}
-use Rattle.ob_tables.specs.declared.table.Table.{Table}
-use Rattle.ob_tables.specs.declared.table.Table.TheVariants.{Meta, Cause, Node, Device, Life, Customer, Entry, Mark, Command, Moved, Posting}
-use Rattle.ob_commit.specs.Keeps.{HasCommitCause, Keeps, WasUndone}
-use Rattle.ob_commit.specs.NewBook.{new_tables}
-use Rattle.ob_commit.specs.Begins.{Stays, StaysOrBegins}
+use Rattle.ob_sql_rows.specs.Schema.{no_schema}
+use Rattle.ob_sql_rows.specs.Rows.{Holds}
+use Rattle.ob_sql_rows.specs.Rules.{IsShort}
+use Rattle.ob_sql_rows.specs.Steps.{HasFailed, IsStoreFault}
+use Rattle.ob_sql_rows.specs.declared.table.Table.{Table}
+use Rattle.ob_sql_rows.specs.declared.table.Table.TheVariants.{Meta, Cause, Node, Device, Life, Customer, Entry, Mark, Command, Moved, Posting}
+use Rattle.ob_sql_write.specs.Keeps.{HasCommitCause, Keeps, WasUndone}
+use Rattle.ob_sql_write.specs.NewBook.{new_tables}
+use Rattle.ob_sql_write.specs.Begins.{Stays, StaysOrBegins}
 use Rattle.ob_record.specs.Reached.{IsReached, StartHasFirstRows, StartIsReached, first_rows}
 use Rattle.ob_record.specs.Tables.{tables_of}
 use Rattle.ob_store.specs.Keeping.{KeepsBook, KeepsOn}

@@ -3,12 +3,12 @@ use Rattle.std.proofs.Common.{◌≡◌, ℕ, ℤ, pos, ◌+◌, List, [], ◌�
 use Rattle.std.specs.List.Sorted.{IsPermutation}
 use Rattle.std.proofs.lemmas.Int.{ints}
 use Rattle.ob_book.specs.Acts.{Referenced}
-use Rattle.ob_tables.specs.Rows.{Columns}
+use Rattle.ob_sql_rows.specs.Rows.{Columns}
 use Rattle.ob_record.specs.Tables.{numbered}
-use Rattle.ob_tables.specs.declared.version.Version.{Version}
-use Rattle.ob_compare.specs.Apart.{IsAbove}
-use Rattle.ob_compare.specs.Ordered.{AreAbove, AreRowsOf, Numbered, rows_under}
-use Rattle.ob_compare.specs.Reading.{command_rows, row_of_command_in}
+use Rattle.ob_sql_rows.specs.declared.version.Version.{Version}
+use Rattle.ob_sql_read.specs.Apart.{IsAbove}
+use Rattle.ob_sql_read.specs.Ordered.{AreAbove, AreRowsOf, Numbered, rows_under}
+use Rattle.ob_sql_read.specs.Reading.{command_rows, row_of_command_in}
 
 abbrev pairs_from : ℕ → List Referenced → List Numbered
 pairs_from n [] = []

@@ -11,8 +11,8 @@ use Rattle.sqlite.proofs.Callers.{one_permutation}
 use Rattle.std.proofs.lemmas.List.Sorted.{IsPermutation-sym, IsPermutation-trans}
 use Rattle.ob_time.specs.Calendar.{day_count}
 use Rattle.ob_time.specs.Dates.{day_text}
-use Rattle.ob_tables.specs.Rows.{Columns, meta_row, number}
-use Rattle.ob_compare.specs.Version.{HasVersion}
+use Rattle.ob_sql_rows.specs.Rows.{Columns, meta_row, number}
+use Rattle.ob_sql_read.specs.Version.{HasVersion}
 use Rattle.ob_store.proofs.Counting.{rows_counted}
 use Rattle.sqlite.specs.Effect.{Database}
 use Rattle.sqlite.specs.Held.{Held, state}
@@ -24,20 +24,20 @@ use Rattle.ob_base.specs.declared.stop.Stop.TheVariants.{Refused, Fault}
 use Rattle.ob_base.specs.declared.stop.Refusal.{Refusal}
 use Rattle.ob_base.specs.declared.stop.Refusal.TheVariants.{BadField, UnknownName, NameTaken, OutOfPeriod, UnknownEntry, Stale, Withdrawn, UnknownCustomer, BadService, RefConflict, Full, MarkedAlready, NotMarked, UnknownCause, BadPeriod, BadBook, BadLife, OldVersion}
 use Rattle.ob_book.specs.Acts.{ActState}
-use Rattle.ob_tables.specs.Schema.{book_schema}
-use Rattle.ob_tables.specs.declared.table.Table.TheVariants.{Meta, Command}
-use Rattle.ob_tables.specs.Steps.{HasFaultCause}
-use Rattle.ob_tables.specs.declared.version.Version.{Version}
-use Rattle.ob_tables.specs.declared.version.Version.TheVariants.{One, Two}
-use Rattle.ob_tables.specs.Rules.{AreNumbered}
-use Rattle.ob_commit.specs.Keeps.{KeepsNumbers, Leaves}
+use Rattle.ob_sql_rows.specs.Schema.{book_schema}
+use Rattle.ob_sql_rows.specs.declared.table.Table.TheVariants.{Meta, Command}
+use Rattle.ob_sql_rows.specs.Steps.{HasFaultCause}
+use Rattle.ob_sql_rows.specs.declared.version.Version.{Version}
+use Rattle.ob_sql_rows.specs.declared.version.Version.TheVariants.{One, Two}
+use Rattle.ob_sql_rows.specs.Rules.{AreNumbered}
+use Rattle.ob_sql_write.specs.Keeps.{KeepsNumbers, Leaves}
 use Rattle.ob_record.specs.Naming.{IsReferenced}
 use Rattle.ob_record.specs.Reached.{IsReached, ReachedAreFew}
 use Rattle.ob_record.specs.Tables.{tables_of}
 use Rattle.ob_store.specs.Keeping.{KeeperValue, KeepsBook, KeepsEitherBook}
 use Rattle.ob_store.specs.Finding.{Differs, IsBookOf}
 use Rattle.ob_store.specs.Loading.{HoldsNoBook, Loaded, trees_in}
-use Rattle.ob_parts.specs.Laws.{OldIsReached}
+use Rattle.ob_sql_check.specs.Laws.{OldIsReached}
 use Rattle.ob_store.specs.Books.{IsReachedIn}
 use Rattle.ob_store.specs.Crashing.{CrashLaw, HasLoaded, LeftLaw, LoadLaw, Loads, OpensAfterCrash, Restores}
 

@@ -7,13 +7,13 @@ use Rattle.sqlite.specs.Tree.{Trees}
 use Rattle.sqlite.specs.Held.{Held, state}
 use Rattle.ob_base.specs.declared.stop.Stop.{Stop}
 use Rattle.ob_book.specs.Acts.{ActState}
-use Rattle.ob_tables.specs.Rows.{shown, tree_of}
-use Rattle.ob_tables.specs.declared.table.Table.{Table}
-use Rattle.ob_tables.specs.declared.table.Table.TheVariants.{Meta, Cause, Node, Device, Life, Customer, Entry, Mark, Command, Moved, Posting}
+use Rattle.ob_sql_rows.specs.Rows.{shown, tree_of}
+use Rattle.ob_sql_rows.specs.declared.table.Table.{Table}
+use Rattle.ob_sql_rows.specs.declared.table.Table.TheVariants.{Meta, Cause, Node, Device, Life, Customer, Entry, Mark, Command, Moved, Posting}
 use Rattle.ob_record.specs.Tables.{Shows, tables_of}
-use Rattle.ob_compare.specs.Parts.{Compares}
-use Rattle.ob_parts.specs.Parts.{parts_in}
-use Rattle.ob_tables.specs.declared.version.Version.TheVariants.{Two}
+use Rattle.ob_sql_read.specs.Parts.{Compares}
+use Rattle.ob_sql_check.specs.Parts.{parts_in}
+use Rattle.ob_sql_rows.specs.declared.version.Version.TheVariants.{Two}
 use Rattle.ob_store.specs.Differing.{IsFirstOff, IsFirstOffOf, IsOff, NoneSo}
 use Rattle.ob_store.specs.Finding.{Finds, place_of}
 use Rattle.ob_store.proofs.Reading.{fails, find_as, read_err, read_ok, then_good, then_more}

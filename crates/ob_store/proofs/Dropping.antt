@@ -10,7 +10,7 @@ use Rattle.ob_base.specs.declared.stop.Stop.TheVariants.{Refused, Fault}
 use Rattle.ob_base.specs.declared.stop.Fault.TheVariants.{OutOfMemory, Store, Reopen, Input, Output}
 use Rattle.ob_state.specs.State.{BookState}
 use Rattle.ob_book.specs.Acts.{ActState, Referenced}
-use Rattle.ob_tables.specs.Steps.{HasFailed, IsStoreFault}
+use Rattle.ob_sql_rows.specs.Steps.{HasFailed, IsStoreFault}
 use Rattle.ob_store.specs.Acting.{Acted, Acts}
 use Rattle.ob_store.specs.Creating.{Created, Creates}
 use Rattle.ob_store.specs.Keeping.{IsBookAfter, KeeperValue, KeepsBook, Ties}

@@ -8,9 +8,9 @@ use Rattle.ob_base.specs.Stop.{out_of_memory}
 use Rattle.ob_base.specs.declared.stop.Stop.{Stop}
 use Rattle.ob_base.specs.declared.stop.Stop.TheVariants.{Fault}
 use Rattle.ob_base.specs.declared.stop.Fault.TheVariants.{Store}
-use Rattle.ob_tables.specs.Steps.{HasFailed, HasFaultCause}
-use Rattle.ob_tables.proofs.Failing.{failed_after}
-use Rattle.ob_compare.specs.Reading.{bad_book}
+use Rattle.ob_sql_rows.specs.Steps.{HasFailed, HasFaultCause}
+use Rattle.ob_sql_rows.proofs.Failing.{failed_after}
+use Rattle.ob_sql_read.specs.Reading.{bad_book}
 use Rattle.ob_store.specs.Keeping.{HasStoreCause, IsBroken}
 
 -- over a file that isn't broken, and over one that may be

@@ -17,7 +17,7 @@ use Rattle.ob_post.specs.declared.Dim.TheVariants.{Cause, Feeder, Day}
 use Rattle.ob_post.specs.declared.Moved.{Moved}
 use Rattle.ob_state.specs.Amounts.{amount}
 use Rattle.ob_book.specs.Acts.{ActState, PeriodStays, book_at, reply_of}
-use Rattle.ob_commit.specs.Stored.{HaveSmallKeys}
+use Rattle.ob_sql_write.specs.Stored.{HaveSmallKeys}
 use Rattle.ob_record.specs.Reached.{IsReached, ReachedAreFew}
 use Rattle.ob_store.specs.MovingOut.{AreFewMoves, IsSmall, Numbered, all_moves, moves_of}
 use Rattle.ob_store.proofs.Replying.{period_at, small_keys}

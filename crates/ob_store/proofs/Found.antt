@@ -9,11 +9,11 @@ use Rattle.ob_base.specs.declared.stop.Stop.TheVariants.{Fault}
 use Rattle.ob_base.specs.declared.stop.Fault.TheVariants.{Store}
 use Rattle.ob_state.specs.State.{BookState}
 use Rattle.ob_book.specs.Acts.{ActState}
-use Rattle.ob_tables.specs.Rows.{AreApart}
-use Rattle.ob_tables.specs.declared.table.Table.{Table}
+use Rattle.ob_sql_rows.specs.Rows.{AreApart}
+use Rattle.ob_sql_rows.specs.declared.table.Table.{Table}
 use Rattle.ob_record.specs.Tables.{Shows, tables_of}
-use Rattle.ob_compare.specs.Reading.{bad_book}
-use Rattle.ob_tables.specs.declared.version.Version.TheVariants.{Two}
+use Rattle.ob_sql_read.specs.Reading.{bad_book}
+use Rattle.ob_sql_rows.specs.declared.version.Version.TheVariants.{Two}
 use Rattle.ob_store.specs.Finding.{Finds, HasNoBook}
 use Rattle.ob_store.specs.Differing.{IsFirstOff, NoneSo}
 use Rattle.ob_store.specs.Leading.{IsLed}

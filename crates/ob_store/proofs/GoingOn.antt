@@ -6,15 +6,15 @@ use Rattle.sqlite.specs.Held.{Held, state}
 use Rattle.sqlite.specs.State.{HasCleanDisk}
 use Rattle.ob_base.specs.declared.stop.Stop.{Stop}
 use Rattle.ob_book.specs.Acts.{ActState}
-use Rattle.ob_tables.specs.Rows.{Tables}
-use Rattle.ob_tables.specs.Schema.{book_schema, no_schema}
-use Rattle.ob_tables.specs.Versions.{schema_of}
-use Rattle.ob_tables.specs.declared.version.Version.{Version}
-use Rattle.ob_tables.specs.declared.version.Version.TheVariants.{One, Two}
-use Rattle.ob_commit.specs.Keeps.{KeepsEitherIn, KeepsIn}
+use Rattle.ob_sql_rows.specs.Rows.{Tables}
+use Rattle.ob_sql_rows.specs.Schema.{book_schema, no_schema}
+use Rattle.ob_sql_rows.specs.Versions.{schema_of}
+use Rattle.ob_sql_rows.specs.declared.version.Version.{Version}
+use Rattle.ob_sql_rows.specs.declared.version.Version.TheVariants.{One, Two}
+use Rattle.ob_sql_write.specs.Keeps.{KeepsEitherIn, KeepsIn}
 use Rattle.ob_record.specs.Tables.{tables_of}
-use Rattle.ob_compare.specs.Reading.{IsReadFault}
-use Rattle.ob_parts.specs.OldTables.{old_tables_of}
+use Rattle.ob_sql_read.specs.Reading.{IsReadFault}
+use Rattle.ob_sql_check.specs.OldTables.{old_tables_of}
 use Rattle.ob_store.specs.Finding.{Finds}
 use Rattle.ob_store.specs.Keeping.{KeepsBook, KeepsEitherBook, KeepsEitherVersion, KeepsOldBook}
 use Rattle.ob_store.specs.Migrating.{HasUpgradeCause, KeepsOnNumbers, MigratesKept, MigratesOn, ShowsVersion}

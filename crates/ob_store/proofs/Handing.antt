@@ -22,19 +22,19 @@ use Rattle.ob_state.specs.State.{BookState, empty_book}
 use Rattle.ob_state.specs.Next.{next}
 use Rattle.ob_state.specs.Amounts.{moves}
 use Rattle.ob_book.specs.Acts.{ActState, Referenced, book_at, of_commands, reply_of, start, take_on}
-use Rattle.ob_tables.specs.Schema.{book_schema}
-use Rattle.ob_tables.specs.Rows.{Tables, Holds}
-use Rattle.ob_tables.specs.declared.table.Table.TheVariants as tables
-use Rattle.ob_commit.specs.Keeps.{Keeps, IsSettled}
-use Rattle.ob_commit.proofs.Commits.{settled_as}
+use Rattle.ob_sql_rows.specs.Schema.{book_schema}
+use Rattle.ob_sql_rows.specs.Rows.{Tables, Holds}
+use Rattle.ob_sql_rows.specs.declared.table.Table.TheVariants as tables
+use Rattle.ob_sql_write.specs.Keeps.{Keeps, IsSettled}
+use Rattle.ob_sql_write.proofs.Commits.{settled_as}
 use Rattle.ob_record.specs.Tables.{tables_of}
-use Rattle.ob_compare.specs.Listing.{Lists}
-use Rattle.ob_compare.specs.Moves.{moved_listing}
-use Rattle.ob_compare.proofs.Listing.{begun_list, quiet, still_then}
-use Rattle.ob_compare.proofs.Order.{numbered, rows_are}
-use Rattle.ob_compare.proofs.Rowing.{moved_is, lists_moved}
-use Rattle.ob_tables.specs.declared.version.Version.TheVariants.{Two}
-use Rattle.ob_tables.proofs.Failing.{failed_after}
+use Rattle.ob_sql_read.specs.Listing.{Lists}
+use Rattle.ob_sql_read.specs.Moves.{moved_listing}
+use Rattle.ob_sql_read.proofs.Listing.{begun_list, quiet, still_then}
+use Rattle.ob_sql_read.proofs.Order.{numbered, rows_are}
+use Rattle.ob_sql_read.proofs.Rowing.{moved_is, lists_moved}
+use Rattle.ob_sql_rows.specs.declared.version.Version.TheVariants.{Two}
+use Rattle.ob_sql_rows.proofs.Failing.{failed_after}
 use Rattle.ob_store.specs.MovingOut.{AreFewMoves, HasHaltCause, IsMoveRow, IsSmall, Numbered, Takes, TakesAll, all_moves, moves_of, row_of_move}
 use Rattle.ob_store.specs.declared.moving.Halt.{Halt}
 use Rattle.ob_store.specs.declared.moving.Halt.TheVariants as halts

@@ -11,14 +11,14 @@ use Rattle.ob_base.specs.declared.stop.Stop.TheVariants.{Fault}
 use Rattle.ob_base.specs.declared.stop.Fault.TheVariants.{Store}
 use Rattle.ob_state.specs.State.{BookState}
 use Rattle.ob_book.specs.Acts.{ActState}
-use Rattle.ob_tables.specs.Schema.{book_schema}
-use Rattle.ob_tables.specs.Rows.{AreApart, Holds}
-use Rattle.ob_tables.specs.declared.table.Table.{Table}
-use Rattle.ob_commit.specs.Keeps.{Keeps}
+use Rattle.ob_sql_rows.specs.Schema.{book_schema}
+use Rattle.ob_sql_rows.specs.Rows.{AreApart, Holds}
+use Rattle.ob_sql_rows.specs.declared.table.Table.{Table}
+use Rattle.ob_sql_write.specs.Keeps.{Keeps}
 use Rattle.ob_record.specs.Tables.{tables_of}
-use Rattle.ob_tables.specs.Creation.{old_schema}
-use Rattle.ob_compare.specs.Reading.{bad_book}
-use Rattle.ob_compare.specs.Version.{IsOfBook}
+use Rattle.ob_sql_rows.specs.Creation.{old_schema}
+use Rattle.ob_sql_read.specs.Reading.{bad_book}
+use Rattle.ob_sql_read.specs.Version.{IsOfBook}
 use Rattle.ob_store.specs.Keeping.{IsBookAfter, KeeperValue, Ties}
 use Rattle.ob_store.specs.Finding.{HasBook, HasNoBook, OnlyReads, ShowsTheSame}
 use Rattle.ob_store.specs.Versions.{IsLoadFault, IsOutdated, Outdated, Tells, old_version}

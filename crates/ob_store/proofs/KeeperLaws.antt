@@ -1,13 +1,13 @@
 -- What follows for the crates above from what a keeper's store keeps.
 use Rattle.std.proofs.Common.{◌≡◌, inl, inr, ℕ, true, false, Ok, arith, ap, length, subst, sym, ◌∙◌}
 use Rattle.ob_book.specs.Acts.{ActState}
-use Rattle.ob_tables.specs.Creation.{old_schema}
-use Rattle.ob_tables.specs.Schema.{book_schema, no_schema}
-use Rattle.ob_tables.specs.declared.version.Version.TheVariants.{One}
-use Rattle.ob_commit.specs.Keeps.{IsSettledIn, Leaves}
-use Rattle.ob_commit.proofs.Commits.{numbers_survive}
+use Rattle.ob_sql_rows.specs.Creation.{old_schema}
+use Rattle.ob_sql_rows.specs.Schema.{book_schema, no_schema}
+use Rattle.ob_sql_rows.specs.declared.version.Version.TheVariants.{One}
+use Rattle.ob_sql_write.specs.Keeps.{IsSettledIn, Leaves}
+use Rattle.ob_sql_write.proofs.Commits.{numbers_survive}
 use Rattle.ob_record.specs.Tables.{tables_of}
-use Rattle.ob_parts.specs.OldTables.{HasOldBook, old_tables_of}
+use Rattle.ob_sql_check.specs.OldTables.{HasOldBook, old_tables_of}
 use Rattle.sqlite.specs.Held.{state}
 use Rattle.ob_store.specs.Calls.{CommitsNothing, MigratesOldTables, WasEmpty}
 use Rattle.ob_store.specs.Keepers.{CrashLeaves, Ghosts, HasOldTables, IsClean, IsOpen, KeeperValue, StatesOld, Stores, StoresEither, StoresEitherVersion, StoresNumbers, StoresOld}

@@ -15,10 +15,10 @@ use Rattle.sqlite.specs.declared.types.Value.TheVariants.{Text}
 use Rattle.sqlite.specs.Collation.TheVariants.{Binary}
 use Rattle.ob_command.specs.Commands.{body_text}
 use Rattle.ob_book.specs.Acts.{ActState, Referenced, number_of}
-use Rattle.ob_tables.specs.Rows.{Columns, command_row, is_reference}
-use Rattle.ob_tables.specs.declared.table.Table.TheVariants.{Command as Commands}
-use Rattle.ob_commit.specs.Known.{AreOfOne}
-use Rattle.ob_compare.specs.Distinct.{ActsAreAccepted, AreDistinct}
+use Rattle.ob_sql_rows.specs.Rows.{Columns, command_row, is_reference}
+use Rattle.ob_sql_rows.specs.declared.table.Table.TheVariants.{Command as Commands}
+use Rattle.ob_sql_write.specs.Known.{AreOfOne}
+use Rattle.ob_sql_read.specs.Distinct.{ActsAreAccepted, AreDistinct}
 use Rattle.ob_record.specs.Reached.{IsReached, ReachedAreFew}
 use Rattle.ob_record.specs.Tables.{numbered, row_of_command, tables_of}
 

@@ -14,16 +14,16 @@ use Rattle.ob_state.specs.Next.{next, next_all}
 use Rattle.ob_book.specs.Acts.{ActState, PeriodStays, acts, start}
 use Rattle.ob_upgrade.specs.Laws.{AcceptedByBoth, LiveAlways, ReachedByBoth}
 use Rattle.ob_upgrade.specs.Old.{old_acts, old_next_all}
-use Rattle.ob_tables.specs.declared.table.Table.TheVariants.{Command as CommandTable, Moved}
-use Rattle.ob_tables.specs.declared.version.Version.{Version}
-use Rattle.ob_tables.specs.declared.version.Version.TheVariants.{One, Two}
+use Rattle.ob_sql_rows.specs.declared.table.Table.TheVariants.{Command as CommandTable, Moved}
+use Rattle.ob_sql_rows.specs.declared.version.Version.{Version}
+use Rattle.ob_sql_rows.specs.declared.version.Version.TheVariants.{One, Two}
 use Rattle.ob_record.specs.Reached.{IsReached, ReachedAreFew}
 use Rattle.ob_record.specs.Tables.{moved_rows, tables_of}
-use Rattle.ob_compare.specs.Distinct.{ActsAreAccepted, AreDistinct, MovedIsOf, ReachedByCommands}
-use Rattle.ob_compare.specs.Moves.{commands_of}
-use Rattle.ob_compare.specs.Ordered.{RowsHaveOneOrder}
-use Rattle.ob_compare.specs.Reading.{command_rows}
-use Rattle.ob_parts.specs.Laws.{OldIsReached, TablesAreAlike}
+use Rattle.ob_sql_read.specs.Distinct.{ActsAreAccepted, AreDistinct, MovedIsOf, ReachedByCommands}
+use Rattle.ob_sql_read.specs.Moves.{commands_of}
+use Rattle.ob_sql_read.specs.Ordered.{RowsHaveOneOrder}
+use Rattle.ob_sql_read.specs.Reading.{command_rows}
+use Rattle.ob_sql_check.specs.Laws.{OldIsReached, TablesAreAlike}
 use Rattle.ob_store.specs.Books.{IsReachedIn, tables_in}
 use Rattle.ob_store.specs.Laws.{Laws}
 

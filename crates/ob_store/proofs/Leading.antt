@@ -20,19 +20,19 @@ use Rattle.ob_time.specs.Period.{IsPeriodText}
 use Rattle.ob_state.specs.State.{BookState, empty_book}
 use Rattle.ob_state.specs.Next.{next_all}
 use Rattle.ob_book.specs.Acts.{ActState, Referenced}
-use Rattle.ob_tables.specs.Rows.{Columns, shown, tree_of}
-use Rattle.ob_tables.specs.declared.table.Table.TheVariants.{Meta, Command, Moved}
-use Rattle.ob_tables.specs.declared.version.Version.{Version}
-use Rattle.ob_tables.specs.declared.version.Version.TheVariants.{Two}
+use Rattle.ob_sql_rows.specs.Rows.{Columns, shown, tree_of}
+use Rattle.ob_sql_rows.specs.declared.table.Table.TheVariants.{Meta, Command, Moved}
+use Rattle.ob_sql_rows.specs.declared.version.Version.{Version}
+use Rattle.ob_sql_rows.specs.declared.version.Version.TheVariants.{Two}
 use Rattle.ob_record.specs.Tables.{Shows, moved_rows}
-use Rattle.ob_compare.specs.Reading.{heading_row}
+use Rattle.ob_sql_read.specs.Reading.{heading_row}
 use Rattle.sqlite_value.specs.declared.value.Value.{Value}
-use Rattle.ob_compare.specs.Listing.{filed_of}
-use Rattle.ob_compare.specs.Moves.{HasMoved, commands_of}
-use Rattle.ob_compare.specs.declared.filed.Filed.{Filed}
-use Rattle.ob_compare.specs.Distinct.{AreDistinct}
-use Rattle.ob_compare.specs.Versioned.{next_all_in}
-use Rattle.ob_compare.specs.declared.heading.Heading.{Heading}
+use Rattle.ob_sql_read.specs.Listing.{filed_of}
+use Rattle.ob_sql_read.specs.Moves.{HasMoved, commands_of}
+use Rattle.ob_sql_read.specs.declared.filed.Filed.{Filed}
+use Rattle.ob_sql_read.specs.Distinct.{AreDistinct}
+use Rattle.ob_sql_read.specs.Versioned.{next_all_in}
+use Rattle.ob_sql_read.specs.declared.heading.Heading.{Heading}
 use Rattle.ob_store.specs.declared.named.Named.{Named}
 use Rattle.ob_store.specs.Books.{IsReachedIn, tables_in}
 use Rattle.ob_store.specs.Finding.{HasNoBook, HasNoBookIn, IsBookIn, IsNamed}

@@ -6,10 +6,10 @@ use Rattle.sqlite.specs.Held.{Held}
 use Rattle.ob_base.specs.Stop.{out_of_memory}
 use Rattle.ob_base.specs.declared.stop.Stop.{Stop}
 use Rattle.ob_state.specs.State.{BookState}
-use Rattle.ob_tables.specs.declared.version.Version.TheVariants.{Two}
-use Rattle.ob_compare.specs.Listing.{filed_of}
-use Rattle.ob_compare.specs.Distinct.{AreDistinct}
-use Rattle.ob_compare.specs.Reading.{bad_book}
+use Rattle.ob_sql_rows.specs.declared.version.Version.TheVariants.{Two}
+use Rattle.ob_sql_read.specs.Listing.{filed_of}
+use Rattle.ob_sql_read.specs.Distinct.{AreDistinct}
+use Rattle.ob_sql_read.specs.Reading.{bad_book}
 use Rattle.ob_store.specs.declared.named.Named.{Named}
 use Rattle.ob_store.specs.Finding.{Finds, HasNoBook, IsNamed}
 use Rattle.ob_store.specs.Leading.{HasNoPeriodOf, IsLed, IsLedBy, LeadsNowhere, MovesAre}

@@ -30,3 +30,6 @@ pub mod GoingOn
 pub mod OldCrashing
 pub mod KeeperLaws
 pub mod Restarting
+pub mod Within
+pub mod Committing
+pub mod Faults

@@ -3,15 +3,15 @@ use Rattle.std.proofs.Common.{◌≡◌, ◌<◌, ◌^◌, List, [], ◌∷◌, 
 use Rattle.std.specs.List.Sorted.{IsPermutation}
 use Rattle.std.proofs.lemmas.List.Sorted.{IsPermutation-refl}
 use Rattle.sqlite.specs.Tree.{Trees}
-use Rattle.ob_tables.specs.Rows.{Columns, shown, tree_of}
-use Rattle.ob_tables.specs.declared.table.Table.TheVariants.{Meta, Command}
+use Rattle.ob_sql_rows.specs.Rows.{Columns, shown, tree_of}
+use Rattle.ob_sql_rows.specs.declared.table.Table.TheVariants.{Meta, Command}
 use Rattle.ob_record.specs.Tables.{Shows}
 use Rattle.ob_time.specs.Calendar.{day_count}
 use Rattle.ob_time.specs.Dates.{day_text}
-use Rattle.ob_compare.specs.Reading.{AreFiled, IsCommands, IsHeading, heading_row}
-use Rattle.ob_compare.specs.declared.commands.Commands.{Commands}
-use Rattle.ob_compare.specs.declared.heading.Heading.{Heading}
-use Rattle.ob_tables.specs.declared.version.Version.{Version}
+use Rattle.ob_sql_read.specs.Reading.{AreFiled, IsCommands, IsHeading, heading_row}
+use Rattle.ob_sql_read.specs.declared.commands.Commands.{Commands}
+use Rattle.ob_sql_read.specs.declared.heading.Heading.{Heading}
+use Rattle.ob_sql_rows.specs.declared.version.Version.{Version}
 use Rattle.ob_store.specs.Finding.{HasNoBookIn, IsNamed}
 use Rattle.ob_store.proofs.Laws.{dated_in}
 

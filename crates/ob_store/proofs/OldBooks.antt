@@ -11,22 +11,22 @@ use Rattle.ob_base.specs.Stop.{out_of_memory}
 use Rattle.ob_base.specs.declared.stop.Stop.{Stop}
 use Rattle.ob_state.specs.State.{BookState}
 use Rattle.ob_book.specs.Acts.{ActState, Referenced}
-use Rattle.ob_tables.specs.Rows.{number, shown, tree_of}
-use Rattle.ob_tables.specs.Versions.{Has}
-use Rattle.ob_tables.specs.declared.table.Table.{Table}
-use Rattle.ob_tables.specs.declared.table.Table.TheVariants.{Meta, Cause, Node, Device, Life, Customer, Entry, Mark, Command, Moved, Posting}
-use Rattle.ob_tables.specs.declared.version.Version.TheVariants.{One}
-use Rattle.ob_commit.specs.Upgrade.{CanUpgrade, LetsUpgrade, with_upgrade}
+use Rattle.ob_sql_rows.specs.Rows.{number, shown, tree_of}
+use Rattle.ob_sql_rows.specs.Versions.{Has}
+use Rattle.ob_sql_rows.specs.declared.table.Table.{Table}
+use Rattle.ob_sql_rows.specs.declared.table.Table.TheVariants.{Meta, Cause, Node, Device, Life, Customer, Entry, Mark, Command, Moved, Posting}
+use Rattle.ob_sql_rows.specs.declared.version.Version.TheVariants.{One}
+use Rattle.ob_sql_write.specs.Upgrade.{CanUpgrade, LetsUpgrade, with_upgrade}
 use Rattle.ob_record.specs.Naming.{IsReferenced}
 use Rattle.ob_record.specs.Tables.{Shows, moved_rows, tables_of}
-use Rattle.ob_compare.specs.Distinct.{AreDistinct}
-use Rattle.ob_compare.specs.Listing.{filed_of}
-use Rattle.ob_compare.specs.Reading.{bad_book, command_rows}
-use Rattle.ob_compare.specs.Version.{HasVersion}
-use Rattle.ob_compare.specs.Versioned.{IsReferencedIn}
-use Rattle.ob_parts.specs.Laws.{IsOldCommand, LetsUpgraded as LetsLaw, OldIsReached, TablesAreAlike, Upgraded as UpgradedLaw}
-use Rattle.ob_parts.specs.OldTables.{HasOldBook, IsOldReached, new_texts, old_tables_of, texts_of}
-use Rattle.ob_parts.specs.Parts.{parts_in}
+use Rattle.ob_sql_read.specs.Distinct.{AreDistinct}
+use Rattle.ob_sql_read.specs.Listing.{filed_of}
+use Rattle.ob_sql_read.specs.Reading.{bad_book, command_rows}
+use Rattle.ob_sql_read.specs.Version.{HasVersion}
+use Rattle.ob_sql_read.specs.Versioned.{IsReferencedIn}
+use Rattle.ob_sql_check.specs.Laws.{IsOldCommand, LetsUpgraded as LetsLaw, OldIsReached, TablesAreAlike, Upgraded as UpgradedLaw}
+use Rattle.ob_sql_check.specs.OldTables.{HasOldBook, IsOldReached, new_texts, old_tables_of, texts_of}
+use Rattle.ob_sql_check.specs.Parts.{parts_in}
 use Rattle.ob_store.specs.declared.migrating.Upgrade.{Upgrade}
 use Rattle.ob_store.specs.declared.named.Named.{Named}
 use Rattle.ob_store.specs.Finding.{Finds, HasNoBookIn, IsBookIn, IsNamed}

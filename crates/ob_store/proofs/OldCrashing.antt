@@ -8,13 +8,13 @@ use Rattle.ob_base.specs.declared.stop.Stop.TheVariants.{Refused, Fault}
 use Rattle.ob_base.specs.declared.stop.Refusal.{Refusal}
 use Rattle.ob_base.specs.declared.stop.Refusal.TheVariants.{BadField, UnknownName, NameTaken, OutOfPeriod, UnknownEntry, Stale, Withdrawn, UnknownCustomer, BadService, RefConflict, Full, MarkedAlready, NotMarked, UnknownCause, BadPeriod, BadBook, BadLife, OldVersion}
 use Rattle.ob_book.specs.Acts.{ActState}
-use Rattle.ob_tables.specs.Creation.{old_schema}
-use Rattle.ob_tables.specs.declared.version.Version.TheVariants.{One}
-use Rattle.ob_commit.specs.Keeps.{LeavesIn}
+use Rattle.ob_sql_rows.specs.Creation.{old_schema}
+use Rattle.ob_sql_rows.specs.declared.version.Version.TheVariants.{One}
+use Rattle.ob_sql_write.specs.Keeps.{LeavesIn}
 use Rattle.ob_record.specs.Naming.{IsReferenced}
 use Rattle.ob_record.specs.Reached.{ReachedAreFew}
-use Rattle.ob_parts.specs.Laws.{OldIsReached}
-use Rattle.ob_parts.specs.OldTables.{HasOldBook, IsOldReached, old_tables_of}
+use Rattle.ob_sql_check.specs.Laws.{OldIsReached}
+use Rattle.ob_sql_check.specs.OldTables.{HasOldBook, IsOldReached, old_tables_of}
 use Rattle.ob_store.specs.Crashing.{OpensAfterCrash, Restores}
 use Rattle.ob_store.specs.Keeping.{KeeperValue, KeepsBook}
 use Rattle.ob_store.specs.Loading.{trees_in}

@@ -4,8 +4,8 @@ use Rattle.std.proofs.lemmas.List.{get_or-map, length-map, take_more}
 use Rattle.std.specs.Cmp.Lexicographic.{other_text, pointwise, same_text}
 use Rattle.std.specs.Prelude.{nat_eq}
 use Rattle.sqlite_schema.specs.declared.schema.Table.{Table}
-use Rattle.ob_tables.specs.declared.table.Table.{Table as Known}
-use Rattle.ob_tables.specs.Rows.{table_name}
+use Rattle.ob_sql_rows.specs.declared.table.Table.{Table as Known}
+use Rattle.ob_sql_rows.specs.Rows.{table_name}
 
 pub same_of : (a b : List ℕ) (p r : Bool) → pointwise nat_eq a b ≡ p → r ≡ not p → r ≡ false → a ≡ b
 same_of a b true r is so off = same_text a b (sym is)

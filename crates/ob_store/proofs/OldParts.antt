@@ -9,15 +9,15 @@ use Rattle.ob_base.specs.declared.stop.Stop.{Stop}
 use Rattle.ob_base.specs.declared.stop.Stop.TheVariants.{Fault}
 use Rattle.ob_base.specs.declared.stop.Fault.TheVariants.{Store}
 use Rattle.ob_state.specs.State.{BookState}
-use Rattle.ob_tables.specs.Rows.{shown, tree_of}
-use Rattle.ob_tables.specs.Versions.{Has}
-use Rattle.ob_tables.specs.declared.table.Table.{Table}
-use Rattle.ob_tables.specs.declared.table.Table.TheVariants.{Meta, Cause, Node, Device, Life, Customer, Entry, Mark, Command, Moved, Posting}
-use Rattle.ob_tables.specs.declared.version.Version.TheVariants.{One}
+use Rattle.ob_sql_rows.specs.Rows.{shown, tree_of}
+use Rattle.ob_sql_rows.specs.Versions.{Has}
+use Rattle.ob_sql_rows.specs.declared.table.Table.{Table}
+use Rattle.ob_sql_rows.specs.declared.table.Table.TheVariants.{Meta, Cause, Node, Device, Life, Customer, Entry, Mark, Command, Moved, Posting}
+use Rattle.ob_sql_rows.specs.declared.version.Version.TheVariants.{One}
 use Rattle.ob_record.specs.Tables.{Shows}
-use Rattle.ob_compare.specs.Parts.{Compares}
-use Rattle.ob_compare.specs.Reading.{bad_book}
-use Rattle.ob_parts.specs.Parts.{IsPart, parts_in}
+use Rattle.ob_sql_read.specs.Parts.{Compares}
+use Rattle.ob_sql_read.specs.Reading.{bad_book}
+use Rattle.ob_sql_check.specs.Parts.{IsPart, parts_in}
 use Rattle.ob_store.specs.Differing.{NoneSo}
 use Rattle.ob_store.specs.Finding.{Finds}
 use Rattle.ob_store.specs.Upgrading.{HasOldParts, HasOldRows, IsOldPart, bare}

@@ -8,21 +8,21 @@ use Rattle.sqlite.specs.Effect.{Database}
 use Rattle.sqlite.specs.Held.{Held, state}
 use Rattle.sqlite.specs.State.{State, HasCleanDisk, IsUnchanged, Shown, Survives}
 use Rattle.ob_base.specs.declared.stop.Stop.{Stop}
-use Rattle.ob_tables.specs.Creation.{old_schema}
-use Rattle.ob_tables.specs.Schema.{book_schema}
+use Rattle.ob_sql_rows.specs.Creation.{old_schema}
+use Rattle.ob_sql_rows.specs.Schema.{book_schema}
 use Rattle.sqlite_tied.specs.Compute.{everything}
-use Rattle.ob_tables.specs.Listings.{select_of}
-use Rattle.ob_tables.specs.Rows.{Columns, Tables}
-use Rattle.ob_tables.specs.Steps.{HasFaultCause}
-use Rattle.ob_tables.specs.Versions.{schema_of}
-use Rattle.ob_tables.specs.declared.table.Table.TheVariants.{Meta}
-use Rattle.ob_tables.specs.declared.version.Version.{Version}
-use Rattle.ob_tables.specs.declared.version.Version.TheVariants.{One, Two}
-use Rattle.ob_commit.specs.Keeps.{KeepsIn}
-use Rattle.ob_compare.specs.Reading.{IsReadFault, bad_book}
-use Rattle.ob_compare.specs.Version.{HasVersion, IsOfBook, IsVersionRow}
-use Rattle.ob_compare.proofs.Asking.{shown_before}
-use Rattle.ob_compare.proofs.Selects.{writes_nothing}
+use Rattle.ob_sql_rows.specs.Listings.{select_of}
+use Rattle.ob_sql_rows.specs.Rows.{Columns, Tables}
+use Rattle.ob_sql_rows.specs.Steps.{HasFaultCause}
+use Rattle.ob_sql_rows.specs.Versions.{schema_of}
+use Rattle.ob_sql_rows.specs.declared.table.Table.TheVariants.{Meta}
+use Rattle.ob_sql_rows.specs.declared.version.Version.{Version}
+use Rattle.ob_sql_rows.specs.declared.version.Version.TheVariants.{One, Two}
+use Rattle.ob_sql_write.specs.Keeps.{KeepsIn}
+use Rattle.ob_sql_read.specs.Reading.{IsReadFault, bad_book}
+use Rattle.ob_sql_read.specs.Version.{HasVersion, IsOfBook, IsVersionRow}
+use Rattle.ob_sql_read.proofs.Asking.{shown_before}
+use Rattle.ob_sql_read.proofs.Selects.{writes_nothing}
 use Rattle.ob_store.specs.Differing.{NoneSo}
 use Rattle.ob_store.specs.Finding.{Finds}
 use Rattle.ob_store.specs.Migrating.{ShowsVersion}

@@ -11,14 +11,14 @@ use Rattle.ob_base.specs.declared.stop.Stop.{Stop}
 use Rattle.ob_base.specs.declared.stop.Stop.TheVariants.{Fault}
 use Rattle.ob_base.specs.declared.stop.Fault.TheVariants.{Store}
 use Rattle.ob_base.specs.Stop.{out_of_memory}
-use Rattle.ob_tables.specs.Versions.{schema_of}
-use Rattle.ob_tables.specs.declared.version.Version.{Version}
-use Rattle.ob_tables.specs.Rows.{Tables}
-use Rattle.ob_tables.proofs.Silence.{silent_same}
-use Rattle.ob_commit.specs.Keeps.{KeepsIn}
-use Rattle.ob_compare.specs.Reading.{IsReadFault, bad_book}
-use Rattle.ob_compare.proofs.Listing.{still_then}
-use Rattle.ob_tables.specs.Steps.{HasFaultCause}
+use Rattle.ob_sql_rows.specs.Versions.{schema_of}
+use Rattle.ob_sql_rows.specs.declared.version.Version.{Version}
+use Rattle.ob_sql_rows.specs.Rows.{Tables}
+use Rattle.ob_sql_rows.proofs.Silence.{silent_same}
+use Rattle.ob_sql_write.specs.Keeps.{KeepsIn}
+use Rattle.ob_sql_read.specs.Reading.{IsReadFault, bad_book}
+use Rattle.ob_sql_read.proofs.Listing.{still_then}
+use Rattle.ob_sql_rows.specs.Steps.{HasFaultCause}
 use Rattle.ob_store.specs.Finding.{Finds}
 use Rattle.ob_store.specs.Keeping.{IsBroken}
 use Rattle.ob_store.proofs.Failing.{as_store_cause, cause_later, no_store}

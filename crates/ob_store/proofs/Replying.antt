@@ -16,9 +16,9 @@ use Rattle.ob_state.specs.State.{BookState, empty_book}
 use Rattle.ob_state.specs.Next.{next}
 use Rattle.ob_state.specs.Amounts.{moves}
 use Rattle.ob_book.specs.Acts.{ActState, PeriodStays, Referenced, book_at, start, take_on}
-use Rattle.ob_tables.specs.Rows.{Columns, number, is_key}
-use Rattle.ob_tables.specs.declared.table.Table.TheVariants as tables
-use Rattle.ob_commit.specs.Stored.{HaveSmallKeys}
+use Rattle.ob_sql_rows.specs.Rows.{Columns, number, is_key}
+use Rattle.ob_sql_rows.specs.declared.table.Table.TheVariants as tables
+use Rattle.ob_sql_write.specs.Stored.{HaveSmallKeys}
 use Rattle.ob_record.specs.Tables.{rows_of_moves, moved_rows, tables_of}
 
 truth_is : (b : Bool) → is_true (from_truth (Some b)) ≡ b
@@ -37,7 +37,7 @@ same_number n = grind (arith, nat_tests)
 
 own_rows : (n : ℕ) (ms : List Moved) → filter (is_key n) (rows_of_moves n ms) ≡ rows_of_moves n ms
 own_rows n [] = refl
-own_rows n (m ∷ ms) = rw (equal_numbers n n, same_number n) (ap (λ rows. Rattle.ob_tables.specs.Rows.moved_row n (dim_number m.dim) m.key m.delta ∷ rows) (own_rows n ms))
+own_rows n (m ∷ ms) = rw (equal_numbers n n, same_number n) (ap (λ rows. Rattle.ob_sql_rows.specs.Rows.moved_row n (dim_number m.dim) m.key m.delta ∷ rows) (own_rows n ms))
 
 other_rows : (k n : ℕ) (ms : List Moved) → (n == k) ≡ false → filter (is_key k) (rows_of_moves n ms) ≡ []
 other_rows k n [] other = refl

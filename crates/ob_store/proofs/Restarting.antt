@@ -8,16 +8,16 @@ use Rattle.ob_base.specs.declared.stop.Stop.{Stop}
 use Rattle.ob_time.specs.Calendar.{Calendar}
 use Rattle.ob_time.specs.Period.{IsPeriodText}
 use Rattle.ob_book.specs.Acts.{ActState, start}
-use Rattle.ob_tables.specs.Rows.{Tables}
-use Rattle.ob_tables.specs.Versions.{schema_of}
-use Rattle.ob_tables.specs.declared.version.Version.{Version}
-use Rattle.ob_tables.specs.declared.version.Version.TheVariants.{One, Two}
-use Rattle.ob_commit.specs.Begins.{Stays}
-use Rattle.ob_commit.specs.Keeps.{KeepsIn, LeavesIn}
-use Rattle.ob_compare.specs.Reading.{IsMissed}
+use Rattle.ob_sql_rows.specs.Rows.{Tables}
+use Rattle.ob_sql_rows.specs.Versions.{schema_of}
+use Rattle.ob_sql_rows.specs.declared.version.Version.{Version}
+use Rattle.ob_sql_rows.specs.declared.version.Version.TheVariants.{One, Two}
+use Rattle.ob_sql_write.specs.Begins.{Stays}
+use Rattle.ob_sql_write.specs.Keeps.{KeepsIn, LeavesIn}
+use Rattle.ob_sql_read.specs.Reading.{IsMissed}
 use Rattle.ob_record.specs.Tables.{tables_of}
-use Rattle.ob_parts.specs.Laws.{OldIsReached}
-use Rattle.ob_parts.specs.OldTables.{old_tables_of}
+use Rattle.ob_sql_check.specs.Laws.{OldIsReached}
+use Rattle.ob_sql_check.specs.OldTables.{old_tables_of}
 use Rattle.ob_store.specs.Calls.{LeftAll, MayHaveBegun, OpensAfter}
 use Rattle.ob_store.specs.Crashing.{CrashLaw, Loads}
 use Rattle.ob_store.specs.Keepers.{Ghosts, HoldsNothing, IsClean, KeeperValue, Stores, StoresEither, StoresEitherVersion, StoresNumbers, StoresOld}

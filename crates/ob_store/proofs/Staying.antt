@@ -5,16 +5,16 @@ use Rattle.sqlite.specs.Schema.{Schema}
 use Rattle.sqlite.specs.Effect.{Database}
 use Rattle.sqlite.specs.State.{State, HasCleanDisk}
 use Rattle.sqlite_tied.specs.Compute.{everything}
-use Rattle.ob_tables.specs.Creation.{old_schema}
-use Rattle.ob_tables.specs.Schema.{book_schema, no_schema}
-use Rattle.ob_tables.specs.Rows.{Tables}
-use Rattle.ob_tables.specs.Versions.{HoldsIn, schema_of}
-use Rattle.ob_tables.specs.declared.version.Version.{Version}
-use Rattle.ob_tables.specs.declared.version.Version.TheVariants.{One, Two}
-use Rattle.ob_commit.specs.Begins.{Begins, ShowsAsBefore}
-use Rattle.ob_commit.specs.Keeps.{IsSettledIn, KeepsEitherIn, KeepsIn}
+use Rattle.ob_sql_rows.specs.Creation.{old_schema}
+use Rattle.ob_sql_rows.specs.Schema.{book_schema, no_schema}
+use Rattle.ob_sql_rows.specs.Rows.{Tables}
+use Rattle.ob_sql_rows.specs.Versions.{HoldsIn, schema_of}
+use Rattle.ob_sql_rows.specs.declared.version.Version.{Version}
+use Rattle.ob_sql_rows.specs.declared.version.Version.TheVariants.{One, Two}
+use Rattle.ob_sql_write.specs.Begins.{Begins, ShowsAsBefore}
+use Rattle.ob_sql_write.specs.Keeps.{IsSettledIn, KeepsEitherIn, KeepsIn}
 use Rattle.ob_record.specs.Tables.{tables_of}
-use Rattle.ob_parts.specs.OldTables.{old_tables_of}
+use Rattle.ob_sql_check.specs.OldTables.{old_tables_of}
 use Rattle.ob_store.specs.Keeping.{KeepsOn}
 
 -- an empty database has the tables of neither version

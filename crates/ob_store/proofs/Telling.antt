@@ -12,17 +12,17 @@ use Rattle.ob_base.specs.Stop.{out_of_memory}
 use Rattle.ob_base.specs.declared.stop.Stop.{Stop}
 use Rattle.ob_base.specs.declared.stop.Stop.TheVariants.{Fault}
 use Rattle.ob_base.specs.declared.stop.Fault.TheVariants.{Store}
-use Rattle.ob_tables.specs.Creation.{old_schema}
-use Rattle.ob_tables.specs.Schema.{book_schema}
-use Rattle.ob_tables.specs.Rows.{Tables}
-use Rattle.ob_commit.specs.Keeps.{Keeps}
-use Rattle.ob_compare.specs.Reading.{IsReadFault, bad_book}
-use Rattle.ob_compare.specs.Version.{HasVersion, IsOfBook}
-use Rattle.ob_tables.specs.Steps.{HasFaultCause}
-use Rattle.ob_tables.specs.Versions.{schema_of}
-use Rattle.ob_tables.specs.declared.version.Version.{Version}
-use Rattle.ob_tables.specs.declared.version.Version.TheVariants.{One, Two}
-use Rattle.ob_compare.proofs.Listing.{still_then}
+use Rattle.ob_sql_rows.specs.Creation.{old_schema}
+use Rattle.ob_sql_rows.specs.Schema.{book_schema}
+use Rattle.ob_sql_rows.specs.Rows.{Tables}
+use Rattle.ob_sql_write.specs.Keeps.{Keeps}
+use Rattle.ob_sql_read.specs.Reading.{IsReadFault, bad_book}
+use Rattle.ob_sql_read.specs.Version.{HasVersion, IsOfBook}
+use Rattle.ob_sql_rows.specs.Steps.{HasFaultCause}
+use Rattle.ob_sql_rows.specs.Versions.{schema_of}
+use Rattle.ob_sql_rows.specs.declared.version.Version.{Version}
+use Rattle.ob_sql_rows.specs.declared.version.Version.TheVariants.{One, Two}
+use Rattle.ob_sql_read.proofs.Listing.{still_then}
 use Rattle.ob_store.specs.Finding.{Finds}
 use Rattle.ob_store.specs.Keeping.{HasStoreCause}
 use Rattle.ob_store.specs.Differing.{NoneSo}

@@ -16,22 +16,22 @@ use Rattle.ob_base.specs.declared.stop.Stop.{Stop}
 use Rattle.ob_base.specs.declared.stop.Stop.TheVariants.{Fault}
 use Rattle.ob_base.specs.declared.stop.Fault.TheVariants.{Store}
 use Rattle.ob_book.specs.Acts.{ActState}
-use Rattle.ob_tables.specs.Creation.{old_schema}
-use Rattle.ob_tables.specs.Rows.{AreApart, Columns, Holds, Tables, number}
-use Rattle.ob_tables.specs.Schema.{book_schema}
-use Rattle.ob_tables.specs.Steps.{IsStoreFault}
-use Rattle.ob_tables.proofs.Failing.{failed_after}
-use Rattle.ob_tables.specs.Versions.{HoldsOld, schema_of}
-use Rattle.ob_tables.specs.declared.version.Version.{Version}
-use Rattle.ob_tables.specs.declared.version.Version.TheVariants.{One, Two}
-use Rattle.ob_commit.specs.Keeps.{HasCommitCause, Keeps, KeepsIn, KeepsNumbers, Leaves, LeavesIn}
-use Rattle.ob_commit.specs.Upgrade.{CanUpgrade, KeepsOldOr, LeavesUpgraded, LetsUpgrade, with_upgrade}
-use Rattle.ob_commit.proofs.Commits.{numbers_survive}
+use Rattle.ob_sql_rows.specs.Creation.{old_schema}
+use Rattle.ob_sql_rows.specs.Rows.{AreApart, Columns, Holds, Tables, number}
+use Rattle.ob_sql_rows.specs.Schema.{book_schema}
+use Rattle.ob_sql_rows.specs.Steps.{IsStoreFault}
+use Rattle.ob_sql_rows.proofs.Failing.{failed_after}
+use Rattle.ob_sql_rows.specs.Versions.{HoldsOld, schema_of}
+use Rattle.ob_sql_rows.specs.declared.version.Version.{Version}
+use Rattle.ob_sql_rows.specs.declared.version.Version.TheVariants.{One, Two}
+use Rattle.ob_sql_write.specs.Keeps.{HasCommitCause, Keeps, KeepsIn, KeepsNumbers, Leaves, LeavesIn}
+use Rattle.ob_sql_write.specs.Upgrade.{CanUpgrade, KeepsOldOr, LeavesUpgraded, LetsUpgrade, with_upgrade}
+use Rattle.ob_sql_write.proofs.Commits.{numbers_survive}
 use Rattle.ob_record.specs.Tables.{tables_of}
-use Rattle.ob_compare.specs.Reading.{IsReadFault}
-use Rattle.ob_compare.specs.Version.{HasVersion}
-use Rattle.ob_parts.specs.Laws.{OldIsReached}
-use Rattle.ob_parts.specs.OldTables.{HasOldBook, old_tables_of}
+use Rattle.ob_sql_read.specs.Reading.{IsReadFault}
+use Rattle.ob_sql_read.specs.Version.{HasVersion}
+use Rattle.ob_sql_check.specs.Laws.{OldIsReached}
+use Rattle.ob_sql_check.specs.OldTables.{HasOldBook, old_tables_of}
 use Rattle.ob_store.specs.declared.migrating.Upgrade.{Upgrade}
 use Rattle.ob_store.specs.Finding.{Finds, OnlyReads}
 use Rattle.ob_store.specs.Keeping.{HasStoreCause, KeepsBook}

@@ -8,8 +8,8 @@ use Rattle.ob_base.specs.declared.stop.Fault.TheVariants.{OutOfMemory, Store}
 use Rattle.ob_command.specs.declared.command.Command.{Command}
 use Rattle.ob_state.specs.State.{BookState}
 use Rattle.ob_book.specs.Acts.{ActState, Referenced, Reply, act, answer, is_accepted}
-use Rattle.ob_tables.specs.Steps.{HasFailed}
-use Rattle.ob_commit.specs.Keeps.{WasUndone}
+use Rattle.ob_sql_rows.specs.Steps.{HasFailed}
+use Rattle.ob_sql_write.specs.Keeps.{WasUndone}
 use Rattle.ob_record.specs.Tables.{tables_of}
 use Rattle.ob_store.specs.Keeping.{KeeperValue, KeepsBook, KeepsEitherBook, Ties}
 use Rattle.ob_store.specs.declared.reply.Reply.{Reply as GivenReply}

@@ -1,15 +1,17 @@
 -- What a call makes of a keeper, as the crates above state it: no store, table or file is named by them.
-use Rattle.std.specs.Prelude.{◌≡◌, ℕ, Bool, List, IsSome, Result}
+use Rattle.std.specs.Prelude.{◌≡◌, ◌⊎◌, ⊤, ℕ, Bool, List, IsSome, IsTrue, Result}
 use Rattle.sqlite_trees.specs.declared.store.Store.{Ghosts}
 use Rattle.sqlite.specs.Held.{state}
 use Rattle.sqlite.specs.State.{Survives}
 use Rattle.ob_base.specs.declared.stop.Stop.{Stop}
-use Rattle.ob_book.specs.Acts.{ActState, Referenced}
-use Rattle.ob_tables.specs.Steps.{HasFailed}
+use Rattle.ob_book.specs.Acts.{ActState, Referenced, act, acts, is_accepted}
+use Rattle.ob_sql_rows.specs.Steps.{HasFailed}
+use Rattle.ob_sql_write.specs.Keeps.{WasUndone}
+use Rattle.ob_record.specs.Tables.{tables_of}
 use Rattle.ob_store.specs.Acting.{HasActCause}
 use Rattle.ob_store.specs.Crashing.{OpensAfterCrash}
 use Rattle.ob_store.specs.Creating.{HasCreateCause, HeldNothing, LeavesAll, MayBegin}
-use Rattle.ob_store.specs.Keepers.{HasOldTables, HasTables, IsClean, IsOpen, StoresOld}
+use Rattle.ob_store.specs.Keepers.{HasOldTables, HasTables, IsClean, IsOpen, StoresNumbers, StoresOld}
 use Rattle.ob_store.specs.Keeping.{Answers, KeeperValue, KeepsOn, Ties}
 use Rattle.ob_store.specs.Migrating.{LeavesKept, LeftAsItWas, Migrated, MigratesKept, MigratesOn}
 
@@ -66,6 +68,24 @@ module _ {S : Type 0} (g : Ghosts S) where
   -- where the store is reported to have failed on a new book of this period, it has; or it undid the book's rows
   abbrev pub HasCreationCause : {X : Type 0} → KeeperValue S → KeeperValue S → List ℕ → ℕ → List ℕ → Result X Stop → Type 0
   HasCreationCause old new first days zone result = HasCreateCause g old.conn new.conn first days zone result
+
+  -- no fault of the disk is forgotten, only a fault shuts the store, and its queries may take as many steps as before
+  abbrev pub ForgetsNoFault : KeeperValue S → KeeperValue S → Type 0
+  ForgetsNoFault old new = Survives (state g old.conn) (state g new.conn) (λ _. ⊤)
+
+  -- why the store is reported to have failed over this book: it has; or after some commands more it undid the rows of one that
+  -- the book accepts
+  abbrev pub HasWorkCause : KeeperValue S → KeeperValue S → ActState → Type 0
+  HasWorkCause old new b =
+      StoreFailed old new
+      ⊎ ((done : List Referenced) × (a : Referenced) × IsTrue (is_accepted (acts b done) a) × WasUndone g (state g new.conn) (tables_of (act (acts b done) a)))
+
+  -- What is known of the store's faults after a call, which reports that the store failed or doesn't: none is forgotten. Over the
+  -- book of a keeper hidden row numbers 1, 2, 3 and so on stay so, and then the store is reported to have failed with a cause only.
+  pub record TellsFaults (old new : KeeperValue S) (failed : Type 0) : Type 0 where
+    pub forgets : ForgetsNoFault old new
+    pub numbered : IfHeld old new (λ b. StoresNumbers g old → StoresNumbers g new)
+    pub cause : IfHeld old new (λ b. StoresNumbers g old → failed → HasWorkCause old new b)
 
   -- the database held nothing before a new book was made in it, and the store was open
   abbrev pub WasEmpty : KeeperValue S → KeeperValue S → Type 0

@@ -7,11 +7,11 @@ use Rattle.sqlite.specs.State.{HasCleanDisk, IsLive, Opens, Survives}
 use Rattle.ob_base.specs.declared.stop.Stop.{Stop}
 use Rattle.ob_base.specs.declared.stop.Stop.TheVariants.{Refused, Fault}
 use Rattle.ob_book.specs.Acts.{ActState}
-use Rattle.ob_tables.specs.Creation.{old_schema}
-use Rattle.ob_tables.specs.Schema.{book_schema}
-use Rattle.ob_tables.specs.Steps.{HasFaultCause}
-use Rattle.ob_tables.specs.declared.version.Version.{Version}
-use Rattle.ob_commit.specs.Keeps.{KeepsNumbers, Leaves}
+use Rattle.ob_sql_rows.specs.Creation.{old_schema}
+use Rattle.ob_sql_rows.specs.Schema.{book_schema}
+use Rattle.ob_sql_rows.specs.Steps.{HasFaultCause}
+use Rattle.ob_sql_rows.specs.declared.version.Version.{Version}
+use Rattle.ob_sql_write.specs.Keeps.{KeepsNumbers, Leaves}
 use Rattle.ob_record.specs.Naming.{IsReferenced}
 use Rattle.ob_record.specs.Tables.{tables_of}
 use Rattle.ob_store.specs.Books.{IsReachedIn}

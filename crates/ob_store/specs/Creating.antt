@@ -12,10 +12,10 @@ use Rattle.ob_time.specs.Period.{IsPeriodText}
 use Rattle.ob_state.specs.State.{empty_book}
 use Rattle.ob_state.specs.States.{BookValue}
 use Rattle.ob_book.specs.Acts.{start}
-use Rattle.ob_tables.specs.Schema.{no_schema}
-use Rattle.ob_tables.specs.Steps.{HasFailed}
-use Rattle.ob_commit.specs.Begins.{Stays, StaysOrBegins}
-use Rattle.ob_commit.specs.Keeps.{WasUndone}
+use Rattle.ob_sql_rows.specs.Schema.{no_schema}
+use Rattle.ob_sql_rows.specs.Steps.{HasFailed}
+use Rattle.ob_sql_write.specs.Begins.{Stays, StaysOrBegins}
+use Rattle.ob_sql_write.specs.Keeps.{WasUndone}
 use Rattle.ob_record.specs.Reached.{IsReached}
 use Rattle.ob_record.specs.Tables.{tables_of}
 use Rattle.ob_store.specs.Keeping.{KeeperValue, KeepsBook, KeepsOn, Ties}

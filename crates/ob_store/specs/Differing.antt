@@ -2,8 +2,8 @@
 use Rattle.std.specs.Prelude.{◌≡◌, ◌↔◌, ℕ, ◌<◌, Bool, Option, Some, None, IsTrue}
 use Rattle.sqlite.specs.Tree.{Trees}
 use Rattle.ob_book.specs.Acts.{ActState}
-use Rattle.ob_tables.specs.declared.table.Table.{Table}
-use Rattle.ob_tables.specs.declared.table.Table.TheVariants.{Command, Moved}
+use Rattle.ob_sql_rows.specs.declared.table.Table.{Table}
+use Rattle.ob_sql_rows.specs.declared.table.Table.TheVariants.{Command, Moved}
 use Rattle.ob_record.specs.Tables.{Shows, tables_of}
 use Rattle.ob_store.specs.Finding.{Differs, place_of}
 

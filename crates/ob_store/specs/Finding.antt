@@ -8,20 +8,20 @@ use Rattle.sqlite.specs.State.{HasCleanDisk, IsUnchanged, Survives}
 use Rattle.ob_base.specs.declared.stop.Stop.{Stop}
 use Rattle.sqlite_value.specs.declared.value.Value.{Value}
 use Rattle.ob_book.specs.Acts.{ActState, Referenced}
-use Rattle.ob_tables.specs.declared.table.Table.{Table}
-use Rattle.ob_tables.specs.declared.table.Table.TheVariants.{Meta, Cause, Node, Device, Life, Customer, Entry, Mark, Command, Moved, Posting}
-use Rattle.ob_tables.specs.declared.version.Version.{Version}
-use Rattle.ob_tables.specs.declared.version.Version.TheVariants.{Two}
-use Rattle.ob_tables.specs.Versions.{schema_of}
+use Rattle.ob_sql_rows.specs.declared.table.Table.{Table}
+use Rattle.ob_sql_rows.specs.declared.table.Table.TheVariants.{Meta, Cause, Node, Device, Life, Customer, Entry, Mark, Command, Moved, Posting}
+use Rattle.ob_sql_rows.specs.declared.version.Version.{Version}
+use Rattle.ob_sql_rows.specs.declared.version.Version.TheVariants.{Two}
+use Rattle.ob_sql_rows.specs.Versions.{schema_of}
 use Rattle.ob_record.specs.Tables.{Shows, tables_of}
-use Rattle.ob_compare.specs.Ordered.{AreRowsOf}
-use Rattle.ob_compare.specs.Reading.{IsReadFault, bad_book, command_rows, heading_row}
-use Rattle.ob_compare.specs.Versioned.{IsReferencedIn}
-use Rattle.ob_compare.specs.Listing.{filed_of}
-use Rattle.ob_tables.specs.Rows.{Tables, shown, tree_of}
+use Rattle.ob_sql_read.specs.Ordered.{AreRowsOf}
+use Rattle.ob_sql_read.specs.Reading.{IsReadFault, bad_book, command_rows, heading_row}
+use Rattle.ob_sql_read.specs.Versioned.{IsReferencedIn}
+use Rattle.ob_sql_read.specs.Listing.{filed_of}
+use Rattle.ob_sql_rows.specs.Rows.{Tables, shown, tree_of}
 use Rattle.ob_time.specs.Calendar.{Calendar, day_count}
 use Rattle.ob_time.specs.Dates.{day_text}
-use Rattle.ob_commit.specs.Keeps.{KeepsIn}
+use Rattle.ob_sql_write.specs.Keeps.{KeepsIn}
 use Rattle.ob_store.specs.Books.{IsReachedIn}
 use Rattle.ob_store.specs.Keeping.{HasStoreCause, KeepsBook}
 use Rattle.ob_store.specs.declared.named.Named.{Named}

@@ -5,10 +5,10 @@ use Rattle.sqlite.specs.Tree.{Trees}
 use Rattle.sqlite.specs.Held.{state}
 use Rattle.sqlite.specs.State.{HasCleanDisk, IsLive}
 use Rattle.ob_book.specs.Acts.{ActState}
-use Rattle.ob_tables.specs.Creation.{old_schema}
-use Rattle.ob_tables.specs.Schema.{book_schema, no_schema}
-use Rattle.ob_commit.specs.Keeps.{KeepsNumbers, Leaves}
-use Rattle.ob_compare.specs.Version.{HasVersion}
+use Rattle.ob_sql_rows.specs.Creation.{old_schema}
+use Rattle.ob_sql_rows.specs.Schema.{book_schema, no_schema}
+use Rattle.ob_sql_write.specs.Keeps.{KeepsNumbers, Leaves}
+use Rattle.ob_sql_read.specs.Version.{HasVersion}
 use Rattle.ob_record.specs.Tables.{tables_of}
 use Rattle.ob_store.specs.Keeping.{KeepsBook, KeepsEitherBook, KeepsEitherVersion, KeepsOldBook}
 pub use Rattle.ob_store.specs.Keeping.{KeeperValue, Ties}

@@ -11,19 +11,19 @@ use Rattle.ob_base.specs.declared.stop.Stop.TheVariants.{Refused, Fault}
 use Rattle.ob_base.specs.declared.stop.Fault.TheVariants.{Store}
 use Rattle.ob_state.specs.State.{BookState}
 use Rattle.ob_book.specs.Acts.{ActState}
-use Rattle.ob_tables.specs.Schema.{no_schema}
-use Rattle.ob_tables.specs.Rows.{AreApart}
-use Rattle.ob_tables.specs.Steps.{HasFailed}
-use Rattle.ob_tables.specs.Versions.{schema_of}
-use Rattle.ob_tables.specs.declared.version.Version.{Version}
-use Rattle.ob_tables.specs.declared.version.Version.TheVariants.{One, Two}
-use Rattle.ob_commit.specs.Keeps.{Keeps, KeepsEither, KeepsIn}
-use Rattle.ob_commit.specs.Upgrade.{KeepsOldOr}
-use Rattle.ob_compare.specs.Reading.{IsMissed}
+use Rattle.ob_sql_rows.specs.Schema.{no_schema}
+use Rattle.ob_sql_rows.specs.Rows.{AreApart}
+use Rattle.ob_sql_rows.specs.Steps.{HasFailed}
+use Rattle.ob_sql_rows.specs.Versions.{schema_of}
+use Rattle.ob_sql_rows.specs.declared.version.Version.{Version}
+use Rattle.ob_sql_rows.specs.declared.version.Version.TheVariants.{One, Two}
+use Rattle.ob_sql_write.specs.Keeps.{Keeps, KeepsEither, KeepsIn}
+use Rattle.ob_sql_write.specs.Upgrade.{KeepsOldOr}
+use Rattle.ob_sql_read.specs.Reading.{IsMissed}
 use Rattle.ob_record.specs.Tables.{tables_of}
 use Rattle.ob_record.specs.Naming.{IsReferenced}
 use Rattle.ob_record.specs.Reached.{IsReached}
-use Rattle.ob_parts.specs.OldTables.{IsOldReached, old_tables_of}
+use Rattle.ob_sql_check.specs.OldTables.{IsOldReached, old_tables_of}
 use Rattle.ob_store.specs.Shapes.{IsShapeOf}
 
 -- the store keeps the tables of a book and its accepted commands, and a crash leaves nothing else

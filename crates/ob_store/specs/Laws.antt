@@ -6,13 +6,13 @@ use Rattle.ob_time.specs.Period.{IsPeriodText}
 use Rattle.ob_command.specs.declared.command.Command.{Command}
 use Rattle.ob_state.specs.State.{BookState, empty_book}
 use Rattle.ob_book.specs.Acts.{ActState, Referenced}
-use Rattle.ob_tables.specs.declared.table.Table.TheVariants.{Moved}
-use Rattle.ob_tables.specs.declared.version.Version.{Version}
+use Rattle.ob_sql_rows.specs.declared.table.Table.TheVariants.{Moved}
+use Rattle.ob_sql_rows.specs.declared.version.Version.{Version}
 use Rattle.ob_record.specs.Tables.{moved_rows}
-use Rattle.ob_compare.specs.Distinct.{AreDistinct}
-use Rattle.ob_compare.specs.Moves.{commands_of}
-use Rattle.ob_compare.specs.Ordered.{RowsHaveOneOrder}
-use Rattle.ob_compare.specs.Versioned.{next_all_in}
+use Rattle.ob_sql_read.specs.Distinct.{AreDistinct}
+use Rattle.ob_sql_read.specs.Moves.{commands_of}
+use Rattle.ob_sql_read.specs.Ordered.{RowsHaveOneOrder}
+use Rattle.ob_sql_read.specs.Versioned.{next_all_in}
 use Rattle.ob_store.specs.Books.{IsReachedIn, tables_in}
 
 pub record Laws (version : Version) : Type 0 where

@@ -8,15 +8,15 @@ use Rattle.ob_time.specs.Period.{IsPeriodText}
 use Rattle.ob_state.specs.State.{BookState, empty_book}
 use Rattle.ob_state.specs.Next.{next_all}
 use Rattle.ob_book.specs.Acts.{ActState}
-use Rattle.ob_tables.specs.Rows.{Columns}
-use Rattle.ob_tables.specs.declared.table.Table.TheVariants.{Command, Moved}
-use Rattle.ob_tables.specs.declared.version.Version.{Version}
-use Rattle.ob_tables.specs.declared.version.Version.TheVariants.{Two}
+use Rattle.ob_sql_rows.specs.Rows.{Columns}
+use Rattle.ob_sql_rows.specs.declared.table.Table.TheVariants.{Command, Moved}
+use Rattle.ob_sql_rows.specs.declared.version.Version.{Version}
+use Rattle.ob_sql_rows.specs.declared.version.Version.TheVariants.{Two}
 use Rattle.ob_record.specs.Tables.{Shows}
-use Rattle.ob_compare.specs.declared.heading.Heading.{Heading}
-use Rattle.ob_compare.specs.Listing.{filed_of}
-use Rattle.ob_compare.specs.Moves.{HasMoved, commands_of}
-use Rattle.ob_compare.specs.Versioned.{next_all_in}
+use Rattle.ob_sql_read.specs.declared.heading.Heading.{Heading}
+use Rattle.ob_sql_read.specs.Listing.{filed_of}
+use Rattle.ob_sql_read.specs.Moves.{HasMoved, commands_of}
+use Rattle.ob_sql_read.specs.Versioned.{next_all_in}
 use Rattle.ob_store.specs.declared.named.Named.{Named}
 use Rattle.ob_store.specs.Books.{tables_in}
 use Rattle.ob_store.specs.Creating.{HasNoPeriodText}

@@ -17,3 +17,4 @@ pub mod Differing
 pub mod MovingOut
 pub mod Keepers
 pub mod Calls
+pub mod Whole

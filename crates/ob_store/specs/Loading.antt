@@ -9,9 +9,9 @@ use Rattle.ob_base.specs.declared.stop.Refusal.TheVariants.{BadBook, OldVersion}
 use Rattle.ob_base.specs.declared.stop.Fault.TheVariants.{OutOfMemory, Store}
 use Rattle.ob_state.specs.State.{BookState}
 use Rattle.ob_book.specs.Acts.{ActState}
-use Rattle.ob_tables.specs.declared.table.Table.{Table}
-use Rattle.ob_tables.specs.Rows.{AreApart}
-use Rattle.ob_compare.specs.Version.{HasVersion}
+use Rattle.ob_sql_rows.specs.declared.table.Table.{Table}
+use Rattle.ob_sql_rows.specs.Rows.{AreApart}
+use Rattle.ob_sql_read.specs.Version.{HasVersion}
 use Rattle.ob_store.specs.Keeping.{KeeperValue, Ties}
 use Rattle.ob_store.specs.Finding.{AreOfNoOther, Differs, HasBook, HasNoBook, IsBookOf, OnlyReads, ShowsTheSame}
 use Rattle.ob_store.specs.Versions.{IsOutdated}

@@ -9,20 +9,20 @@ use Rattle.ob_base.specs.declared.stop.Stop.TheVariants.{Refused, Fault}
 use Rattle.ob_base.specs.declared.stop.Refusal.TheVariants.{BadBook}
 use Rattle.ob_base.specs.declared.stop.Fault.TheVariants.{OutOfMemory, Store}
 use Rattle.ob_book.specs.Acts.{ActState}
-use Rattle.ob_tables.specs.Creation.{old_schema}
-use Rattle.ob_tables.specs.Listings.{select_of}
-use Rattle.ob_tables.specs.Rows.{Columns}
-use Rattle.ob_tables.specs.Schema.{no_schema}
-use Rattle.ob_tables.specs.Steps.{HasFailed}
-use Rattle.ob_tables.specs.Versions.{schema_of}
-use Rattle.ob_tables.specs.declared.table.Table.TheVariants.{Meta}
-use Rattle.ob_tables.specs.declared.version.Version.{Version}
-use Rattle.ob_tables.specs.declared.version.Version.TheVariants.{One}
-use Rattle.ob_commit.specs.Keeps.{HasCommitCause, KeepsNumbers, Leaves}
+use Rattle.ob_sql_rows.specs.Creation.{old_schema}
+use Rattle.ob_sql_rows.specs.Listings.{select_of}
+use Rattle.ob_sql_rows.specs.Rows.{Columns}
+use Rattle.ob_sql_rows.specs.Schema.{no_schema}
+use Rattle.ob_sql_rows.specs.Steps.{HasFailed}
+use Rattle.ob_sql_rows.specs.Versions.{schema_of}
+use Rattle.ob_sql_rows.specs.declared.table.Table.TheVariants.{Meta}
+use Rattle.ob_sql_rows.specs.declared.version.Version.{Version}
+use Rattle.ob_sql_rows.specs.declared.version.Version.TheVariants.{One}
+use Rattle.ob_sql_write.specs.Keeps.{HasCommitCause, KeepsNumbers, Leaves}
 use Rattle.ob_record.specs.Tables.{tables_of}
-use Rattle.ob_compare.specs.Reading.{IsMissed}
-use Rattle.ob_compare.specs.Version.{HasVersion, IsOfBook, IsVersionRow}
-use Rattle.ob_parts.specs.OldTables.{HasOldBook}
+use Rattle.ob_sql_read.specs.Reading.{IsMissed}
+use Rattle.ob_sql_read.specs.Version.{HasVersion, IsOfBook, IsVersionRow}
+use Rattle.ob_sql_check.specs.OldTables.{HasOldBook}
 use Rattle.ob_store.specs.Finding.{OnlyReads, ShowsTheSame}
 use Rattle.ob_store.specs.Keeping.{IsAnswer, IsBroken, KeepsBook, KeepsEitherBook}
 pub use Rattle.ob_store.specs.Keeping.{KeepsEitherVersion, KeepsOldBook}

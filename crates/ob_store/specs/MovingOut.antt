@@ -13,13 +13,13 @@ use Rattle.ob_base.specs.declared.stop.Stop.TheVariants.{Refused, Fault}
 use Rattle.ob_post.specs.Keys.{dim_number}
 use Rattle.ob_post.specs.declared.Moved.{Moved}
 use Rattle.ob_book.specs.Acts.{ActState, reply_of}
-use Rattle.ob_tables.specs.Rows.{Columns, moved_row}
-use Rattle.ob_tables.specs.Steps.{HasFailed, IsStoreFault}
-use Rattle.ob_tables.specs.declared.table.Table.TheVariants.{Moved as MovedTable}
+use Rattle.ob_sql_rows.specs.Rows.{Columns, moved_row}
+use Rattle.ob_sql_rows.specs.Steps.{HasFailed, IsStoreFault}
+use Rattle.ob_sql_rows.specs.declared.table.Table.TheVariants.{Moved as MovedTable}
 use Rattle.ob_record.specs.Reached.{IsReached}
 use Rattle.ob_record.specs.Tables.{tables_of}
-use Rattle.ob_compare.specs.Listing.{Lists}
-use Rattle.ob_compare.specs.Moves.{moved_listing}
+use Rattle.ob_sql_read.specs.Listing.{Lists}
+use Rattle.ob_sql_read.specs.Moves.{moved_listing}
 use Rattle.ob_state.specs.State.{BookState}
 use Rattle.ob_store.specs.Keeping.{IsBookAfter, KeeperValue, KeepsBook, Ties}
 use Rattle.ob_store.specs.declared.moving.Halt.{Halt}

@@ -5,8 +5,8 @@ use Rattle.sqlite.specs.Held.{Held, state}
 use Rattle.ob_base.specs.declared.stop.Stop.{Stop}
 use Rattle.ob_base.specs.declared.stop.Stop.TheVariants.{Refused, Fault}
 use Rattle.ob_book.specs.Acts.{ActState}
-use Rattle.ob_tables.specs.Creation.{old_schema}
-use Rattle.ob_compare.specs.Version.{HasVersion}
+use Rattle.ob_sql_rows.specs.Creation.{old_schema}
+use Rattle.ob_sql_read.specs.Version.{HasVersion}
 use Rattle.ob_store.specs.Crashing.{OpensAfterCrash, Restores}
 use Rattle.ob_store.specs.Keeping.{KeeperValue, KeepsBook}
 use Rattle.ob_store.specs.Loading.{trees_in}

@@ -10,21 +10,21 @@ use Rattle.ob_base.specs.declared.stop.Stop.TheVariants.{Refused, Fault}
 use Rattle.ob_base.specs.declared.stop.Fault.TheVariants.{OutOfMemory, Store}
 use Rattle.ob_state.specs.State.{BookState}
 use Rattle.ob_book.specs.Acts.{ActState}
-use Rattle.ob_tables.specs.Creation.{old_schema}
-use Rattle.ob_tables.specs.Rows.{AreApart, Tables}
-use Rattle.ob_tables.specs.Schema.{book_schema}
-use Rattle.ob_tables.specs.declared.table.Table.{Table}
-use Rattle.ob_tables.specs.declared.table.Table.TheVariants.{Life, Command, Moved}
-use Rattle.ob_tables.specs.Versions.{schema_of}
-use Rattle.ob_tables.specs.declared.version.Version.{Version}
-use Rattle.ob_tables.specs.declared.version.Version.TheVariants.{One, Two}
-use Rattle.ob_commit.specs.Keeps.{HasCommitCause, Leaves}
-use Rattle.ob_commit.specs.Upgrade.{CanUpgrade, LetsUpgrade, with_upgrade}
+use Rattle.ob_sql_rows.specs.Creation.{old_schema}
+use Rattle.ob_sql_rows.specs.Rows.{AreApart, Tables}
+use Rattle.ob_sql_rows.specs.Schema.{book_schema}
+use Rattle.ob_sql_rows.specs.declared.table.Table.{Table}
+use Rattle.ob_sql_rows.specs.declared.table.Table.TheVariants.{Life, Command, Moved}
+use Rattle.ob_sql_rows.specs.Versions.{schema_of}
+use Rattle.ob_sql_rows.specs.declared.version.Version.{Version}
+use Rattle.ob_sql_rows.specs.declared.version.Version.TheVariants.{One, Two}
+use Rattle.ob_sql_write.specs.Keeps.{HasCommitCause, Leaves}
+use Rattle.ob_sql_write.specs.Upgrade.{CanUpgrade, LetsUpgrade, with_upgrade}
 use Rattle.ob_record.specs.Tables.{Shows, tables_of}
-use Rattle.ob_compare.specs.Reading.{IsReadFault}
-use Rattle.ob_compare.specs.Version.{HasVersion}
-use Rattle.ob_parts.specs.OldTables.{HasOldBook, old_tables_of}
-use Rattle.ob_parts.specs.Parts.{parts_in}
+use Rattle.ob_sql_read.specs.Reading.{IsReadFault}
+use Rattle.ob_sql_read.specs.Version.{HasVersion}
+use Rattle.ob_sql_check.specs.OldTables.{HasOldBook, old_tables_of}
+use Rattle.ob_sql_check.specs.Parts.{parts_in}
 use Rattle.ob_store.specs.declared.migrating.Upgrade.{Upgrade}
 use Rattle.ob_store.specs.Keeping.{KeepsBook}
 use Rattle.ob_store.specs.Migrating.{HasUpgradeCause, HoldsOldBook, KeepsEitherVersion, KeepsOldBook, KeepsOnNumbers, LeavesKept, LeftAsItWas, Migrated, MigratesKept}

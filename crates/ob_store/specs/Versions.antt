@@ -8,15 +8,15 @@ use Rattle.ob_base.specs.declared.stop.Stop.{Stop}
 use Rattle.ob_base.specs.declared.stop.Stop.TheVariants.{Refused, Fault}
 use Rattle.ob_base.specs.declared.stop.Refusal.TheVariants.{BadBook, OldVersion}
 use Rattle.ob_base.specs.declared.stop.Fault.TheVariants.{OutOfMemory, Store}
-use Rattle.ob_tables.specs.Creation.{old_schema}
-use Rattle.ob_tables.specs.Schema.{book_schema, no_schema}
-use Rattle.ob_tables.specs.Rows.{Tables}
-use Rattle.ob_tables.specs.Steps.{HasFaultCause}
-use Rattle.ob_tables.specs.Versions.{schema_of}
-use Rattle.ob_tables.specs.declared.version.Version.{Version}
-use Rattle.ob_commit.specs.Keeps.{Keeps, KeepsEitherIn, KeepsIn}
-use Rattle.ob_compare.specs.Reading.{IsMissed, IsReadFault, bad_book}
-use Rattle.ob_compare.specs.Version.{HasVersion, IsOfBook}
+use Rattle.ob_sql_rows.specs.Creation.{old_schema}
+use Rattle.ob_sql_rows.specs.Schema.{book_schema, no_schema}
+use Rattle.ob_sql_rows.specs.Rows.{Tables}
+use Rattle.ob_sql_rows.specs.Steps.{HasFaultCause}
+use Rattle.ob_sql_rows.specs.Versions.{schema_of}
+use Rattle.ob_sql_rows.specs.declared.version.Version.{Version}
+use Rattle.ob_sql_write.specs.Keeps.{Keeps, KeepsEitherIn, KeepsIn}
+use Rattle.ob_sql_read.specs.Reading.{IsMissed, IsReadFault, bad_book}
+use Rattle.ob_sql_read.specs.Version.{HasVersion, IsOfBook}
 use Rattle.ob_store.specs.Finding.{OnlyReads, ShowsTheSame}
 use Rattle.ob_store.specs.Keeping.{HasStoreCause, IsAnswer, KeeperValue}
 

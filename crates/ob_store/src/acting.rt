@@ -1,21 +1,21 @@
 //! Applies a command under a reference: the reply, and the state of the store and of the book
 //! afterwards.
-ghost use Rattle.std.specs.Prelude.{◌≡◌, ◌≢◌, ◌≤◌, false, None, IfErr, OnErr};
+ghost use Rattle.std.specs.Prelude.{◌≡◌, ◌≢◌, ◌≤◌, ⊤, false, None, IfErr, OnErr};
 ghost use Rattle.sqlite.specs.Held.{state};
 ghost use Rattle.sqlite.specs.State.{HasCleanDisk, Survives};
 ghost use Rattle.ob_book.specs.Acts.{ActState, number_of};
 ghost use Rattle.ob_command.specs.Commands.{IsCommand, body_text as body_text_of};
 ghost use Rattle.ob_store.specs.Keeping.{KeepsBook};
-ghost use Rattle.ob_commit.specs.Keeps.{KeepsNumbers};
+ghost use Rattle.ob_sql_write.specs.Keeps.{KeepsNumbers};
 ghost use Rattle.ob_store.specs.Acting.{Acts, HasActCause, IsActStop, under};
 
 use crate::reply::{Moves, Reply};
 use crate::stored::stored_reply;
 use ob_base::{Fault, Ref, Refusal, Stop};
 use ob_book::{Book, Command, body_text};
-use ob_commit::{Known, commit_act, look_up};
-use ob_compare::reaching_law;
 use ob_record::{act_of, naming_law, reached_law};
+use ob_sql_read::reaching_law;
+use ob_sql_write::{Known, commit_act, look_up};
 use ob_sweep::Timeline;
 use sqlite::{Alter, Connection};
 use std::alloc::Global;
@@ -34,6 +34,7 @@ pub(crate) fn act_on<S: Alter, T: Timeline>(
     ensures faults { IfErr result IsActStop }
     ensures clean { HasCleanDisk (state S.Store conn.new) → HasCleanDisk (state S.Store conn.old) }
     ensures limit { conn.new.step_limit ≡ conn.old.step_limit }
+    ensures survives { Survives (state S.Store conn.old) (state S.Store conn.new) (λ _. ⊤) }
     ensures book { OnErr result (book.new.state ≡ book.old.state) }
     ensures acts { HasCleanDisk (state S.Store conn.new) → (b : ActState)
         → KeepsBook (state S.Store conn.old) b → book.old.state ≡ b.book
@@ -79,6 +80,7 @@ fn accept<S: Alter, T: Timeline>(
     ensures faults { IfErr result IsActStop }
     ensures clean { HasCleanDisk (state S.Store conn.new) → HasCleanDisk (state S.Store conn.old) }
     ensures limit { conn.new.step_limit ≡ conn.old.step_limit }
+    ensures survives { Survives (state S.Store conn.old) (state S.Store conn.new) (λ _. ⊤) }
     ensures book { OnErr result (book.new.state ≡ book.old.state) }
     ensures acts { HasCleanDisk (state S.Store conn.new) → (b : ActState)
         → KeepsBook (state S.Store conn.old) b → book.old.state ≡ b.book

@@ -2,8 +2,8 @@
 ghost use Rattle.ob_store.specs.Crashing.{CrashLaw, LeftLaw, LoadLaw};
 ghost use Rattle.ob_store.specs.OldCrashing.{OldCrashLaw};
 
-use ob_parts::upgrade_law;
 use ob_record::naming_law;
+use ob_sql_check::upgrade_law;
 use sqlite::Alter;
 
 /// States what a crash leaves of a store that keeps a book. When it is opened again it shows the

@@ -2,13 +2,13 @@
 ghost use Rattle.std.specs.Prelude.{◌≡◌, false, OnOk};
 ghost use Rattle.sqlite.specs.Held.{state};
 ghost use Rattle.sqlite.specs.State.{HasCleanDisk};
-ghost use Rattle.ob_commit.specs.Keeps.{KeepsNumbers};
+ghost use Rattle.ob_sql_write.specs.Keeps.{KeepsNumbers};
 ghost use Rattle.ob_store.specs.Creating.{Creates, HasCreateCause};
 
 use ob_base::{Fault, Stop};
 use ob_book::Book;
-use ob_commit::commit_new;
 use ob_record::reached_law;
+use ob_sql_write::commit_new;
 use ob_sweep::Timeline;
 use ob_time::Period;
 use sqlite::{Alter, Connection};

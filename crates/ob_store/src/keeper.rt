@@ -10,11 +10,12 @@ use crate::migrating::migrate_on;
 use crate::moving::{Halt, MoveSink, hand_out, moves_law};
 use crate::reply::Reply;
 use crate::stored::reply_at;
-use ob_base::{Fault, Ref, Stop};
+use crate::whole::{Halted, act_all_on};
+use ob_base::{Fault, Ref, Refusal, Stop};
 use ob_book::{Book, Command};
-use ob_compare::{Progress, Silent, Work};
+use ob_sql_read::{Progress, Silent, Work};
+use ob_sql_rows::Table;
 use ob_sweep::Timeline;
-use ob_tables::Table;
 use ob_upgrade::version_law;
 use sqlite::{Alter, Connection};
 use std::alloc::Global;
@@ -55,7 +56,7 @@ fn settle<T: Timeline>(book: &mut Option<Book<T>>, stop: Stop)
 }
 
 impl<S: Alter, T: Timeline> Keeper<S, T> {
-    ghost use Rattle.std.specs.Prelude.{◌≡◌, ◌↔◌, false, None, Some, Err, IsSome, IsTrue, IfErr, IfOk, OnOk};
+    ghost use Rattle.std.specs.Prelude.{◌≡◌, ◌↔◌, ◌≤◌, ⊤, length, false, None, Some, Err, IsErr, IsSome, IsTrue, IfErr, IfOk, OnOk};
     ghost use Rattle.ob_base.specs.declared.stop.Refusal.{Refusal as ARefusal};
     ghost use Rattle.ob_base.specs.declared.stop.Fault.{Fault as AFault};
     ghost use Rattle.ob_base.specs.declared.stop.Stop.{Stop as AStop};
@@ -67,19 +68,20 @@ impl<S: Alter, T: Timeline> Keeper<S, T> {
     ghost use Rattle.ob_book.specs.Acts.{ActState};
     ghost use Rattle.ob_store.specs.Keeping.{Answers, IsBookAfter, Ties};
     ghost use Rattle.ob_store.specs.Crashing.{Loads};
-    ghost use Rattle.ob_commit.specs.Keeps.{KeepsNumbers};
+    ghost use Rattle.ob_sql_write.specs.Keeps.{KeepsNumbers};
     ghost use Rattle.ob_store.specs.Acting.{Acted, HasActCause, IsActStop, under};
     ghost use Rattle.ob_store.specs.Replying.{Replied};
+    ghost use Rattle.ob_store.specs.Whole.{ActedAll, CommitsOf, HasListCause, LeadTo, no_book};
     ghost use Rattle.ob_store.specs.Creating.{Created, HasCreateCause};
     ghost use Rattle.ob_store.specs.Loading.{Audited, Loaded};
     ghost use Rattle.ob_store.specs.Migrating.{KeepsOldBook, LeavesKept, LeftAsItWas, Migrated, MigratesKept, MigratesOn};
     ghost use Rattle.ob_store.specs.OldCrashing.{OldCrashLaw};
     ghost use Rattle.ob_upgrade.specs.Laws.{AcceptedByBoth, SameFigures};
     ghost use Rattle.ob_store.specs.MovingOut.{HandsOver, IsBookAfterMoves, MovesAreRows, MovesOut};
-    ghost use Rattle.ob_tables.specs.Schema.{book_schema};
-    ghost use Rattle.ob_tables.specs.Steps.{HasFaultCause, IsStoreFault};
-    ghost use Rattle.ob_tables.specs.Creation.{old_schema};
-    ghost use Rattle.ob_compare.specs.Reading.{IsReadFault};
+    ghost use Rattle.ob_sql_rows.specs.Schema.{book_schema};
+    ghost use Rattle.ob_sql_rows.specs.Steps.{HasFaultCause, IsStoreFault};
+    ghost use Rattle.ob_sql_rows.specs.Creation.{old_schema};
+    ghost use Rattle.ob_sql_read.specs.Reading.{IsReadFault};
     ghost use Rattle.ob_store.specs.Versions.{IsLoadFault, Outdated};
     ghost use Rattle.std.specs.Option.{option_map};
 
@@ -136,6 +138,9 @@ impl<S: Alter, T: Timeline> Keeper<S, T> {
         ensures clean { HasCleanDisk (state S.Store self.new.conn)
             → HasCleanDisk (state S.Store self.old.conn) }
         ensures limit { self.new.conn.step_limit ≡ self.old.conn.step_limit }
+        // no fault of the disk is forgotten, and only a fault shuts the store
+        ensures survives { Survives (state S.Store self.old.conn) (state S.Store self.new.conn)
+            (λ _. ⊤) }
         ensures acted { HasCleanDisk (state S.Store self.new.conn) → (b : ActState)
             → Ties S.Store self.old b → IsSome self.old.book
             → Acted S.Store self.old self.new b (under reference command) result }
@@ -158,6 +163,57 @@ impl<S: Alter, T: Timeline> Keeper<S, T> {
             Err(stop) => {
                 settle(&mut self.book, stop);
                 Err(stop)
+            }
+        }
+    }
+
+    /// Applies the lines of a list in one transaction, each as `act` does, and commits after the
+    /// last: all of them, or none. A line is a command under its reference, or the refusal of a
+    /// line that says none. Returns how many commands were new to the book. If a line is refused,
+    /// an allocation fails or the store fails, nothing of the list is in the store and the keeper
+    /// has no book until `load`; if the store fails to confirm the commit, the store holds all of
+    /// it or nothing. Reports each line to `progress`. `Fault::Reopen` if the keeper has no book.
+    pub fn act_all<P: Progress>(
+        &mut self,
+        list: &[Result<(Ref, Command), Refusal>],
+        progress: &mut P,
+    ) -> Result<usize, Halted>
+        ensures reopen { (self.old.book ≡ None) ↔ (result ≡ no_book) }
+        ensures unopened { self.old.book ≡ None → self.new ≡ self.old }
+        ensures few { IfOk result (λ added. added ≤ length list.now) }
+        ensures within { IfErr result (λ e. e.place ≤ length list.now) }
+        ensures faults { IsSome self.old.book → IfErr result (λ e. IsActStop e.stop) }
+        ensures dropped { IsSome self.old.book → (self.new.book ≡ None) ↔ IsErr result }
+        ensures clean { HasCleanDisk (state S.Store self.new.conn)
+            → HasCleanDisk (state S.Store self.old.conn) }
+        ensures limit { self.new.conn.step_limit ≡ self.old.conn.step_limit }
+        ensures acted { HasCleanDisk (state S.Store self.new.conn) → (b : ActState)
+            → Ties S.Store self.old b → IsSome self.old.book
+            → ActedAll S.Store self.new b list.now result }
+        // if the hidden row numbers are consecutive, `Fault::Store` is returned only if the store
+        // failed, or rolled the rows of the list back
+        ensures cause { HasCleanDisk (state S.Store self.new.conn) → (b : ActState)
+            → Ties S.Store self.old b → KeepsNumbers (state S.Store self.old.conn)
+            → IsSome self.old.book → HasListCause S.Store self.old.conn self.new.conn b list.now
+            result }
+        // the row numbers stay consecutive
+        ensures numbered { (b : ActState) → Ties S.Store self.old b
+            → KeepsNumbers (state S.Store self.old.conn)
+            → KeepsNumbers (state S.Store self.new.conn) }
+        // a crash leaves what it could leave before, or that with all commands of the list
+        ensures commits { CommitsOf S.Store (LeadTo list.now) self.old self.new }
+    {
+        let Some(book) = &mut self.book else {
+            return Err(Halted {
+                place: 0,
+                stop: Stop::Fault(Fault::Reopen),
+            });
+        };
+        match act_all_on(self.alloc, &mut self.conn, book, list, progress) {
+            Ok(added) => Ok(added),
+            Err(halted) => {
+                self.book = None;
+                Err(halted)
             }
         }
     }

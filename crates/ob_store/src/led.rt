@@ -1,18 +1,18 @@
 //! Replays the commands in the tables on a new book.
 ghost use Rattle.std.specs.Prelude.{◌≡◌, ◌⊎◌, false, true, is_some, IfOk, IfErr, IfSome};
 ghost use Rattle.ob_base.specs.Stop.{out_of_memory};
-ghost use Rattle.ob_compare.specs.Reading.{bad_book};
-ghost use Rattle.ob_tables.specs.declared.version.Version.{Version as AVersion};
+ghost use Rattle.ob_sql_read.specs.Reading.{bad_book};
+ghost use Rattle.ob_sql_rows.specs.declared.version.Version.{Version as AVersion};
 ghost use Rattle.ob_store.specs.Finding.{Finds, HasNoBook};
 ghost use Rattle.ob_store.specs.Leading.{HasNoPeriodOf, IsBegun, IsLed, IsLedBy, IsNewBook, LeadsNowhere, MovesAre};
 
 use crate::named::{BAD_BOOK, Named, read_named};
 use ob_base::Stop;
 use ob_book::{Book, next_law};
-use ob_compare::{Heading, Layout, Progress, are_distinct, holds_moves, lead, reaching_law};
 use ob_record::naming_law;
+use ob_sql_read::{Heading, Layout, Progress, are_distinct, holds_moves, lead, reaching_law};
+use ob_sql_rows::Version;
 use ob_sweep::Timeline;
-use ob_tables::Version;
 use ob_time::Period;
 use sqlite::{Alter, Connection};
 use std::alloc::Global;

@@ -1,6 +1,6 @@
 //! Loads the book in the tables, and finds the first table that differs from the book.
 ghost use Rattle.std.specs.Prelude.{◌≡◌, Ok};
-ghost use Rattle.ob_tables.specs.declared.version.Version.{Version as AVersion};
+ghost use Rattle.ob_sql_rows.specs.declared.version.Version.{Version as AVersion};
 ghost use Rattle.ob_store.specs.Finding.{Finds, HasNoBook};
 ghost use Rattle.ob_store.specs.Keeping.{Answers};
 ghost use Rattle.ob_store.specs.Leading.{IsLed};
@@ -13,9 +13,9 @@ use crate::off::first_off;
 use crate::version::check_version;
 use ob_base::{Fault, Stop};
 use ob_book::Book;
-use ob_compare::{Progress, Silent, Work, are_apart};
+use ob_sql_read::{Progress, Silent, Work, are_apart};
+use ob_sql_rows::Table;
 use ob_sweep::Timeline;
-use ob_tables::Table;
 use sqlite::{Alter, Connection};
 use std::alloc::Global;
 

@@ -8,12 +8,12 @@ ghost use Rattle.sqlite.specs.State.{HasCleanDisk, IsUnchanged, Survives};
 ghost use Rattle.ob_post.specs.Keys.{dim_number};
 ghost use Rattle.ob_post.specs.declared.Dim.{Dim as ADim};
 ghost use Rattle.ob_post.specs.declared.Moved.{Moved as AMoved};
-ghost use Rattle.ob_tables.specs.Schema.{book_schema};
-ghost use Rattle.ob_tables.specs.Rows.{Tables, number};
-ghost use Rattle.ob_tables.specs.Steps.{HasFaultCause, IsStoreFault};
-ghost use Rattle.ob_commit.specs.Keeps.{Keeps};
+ghost use Rattle.ob_sql_rows.specs.Schema.{book_schema};
+ghost use Rattle.ob_sql_rows.specs.Rows.{Tables, number};
+ghost use Rattle.ob_sql_rows.specs.Steps.{HasFaultCause, IsStoreFault};
+ghost use Rattle.ob_sql_write.specs.Keeps.{Keeps};
 ghost use Rattle.ob_book.specs.Acts.{ActState};
-ghost use Rattle.ob_compare.specs.Moves.{moved_listing};
+ghost use Rattle.ob_sql_read.specs.Moves.{moved_listing};
 ghost use Rattle.ob_store.specs.Keeping.{KeepsBook};
 ghost use Rattle.ob_store.specs.MovingOut.{AreFewMoves, ComesNext, Hands, HandsOut, HasHaltCause, IsMoveRow, MovesAreFew, MovesAreRows, Numbered, row_of_move};
 
@@ -22,7 +22,7 @@ use ob_book::next_law;
 use ob_post::laws::move_laws;
 use ob_post::{Dim, Moved};
 use ob_record::naming_law;
-use ob_tables::stop_of;
+use ob_sql_rows::stop_of;
 use sqlite::{Alter, Connection, Row, Rows};
 use sqlite_value::value::ValueRef;
 

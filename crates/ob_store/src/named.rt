@@ -3,8 +3,8 @@ ghost use Rattle.std.specs.Prelude.{◌≤◌, length, IfOk};
 ghost use Rattle.ob_store.specs.Finding.{Finds, HasNoBookIn, IsNamed};
 
 use ob_base::{Refusal, Stop};
-use ob_compare::{Filed, Heading, read_commands, read_heading};
-use ob_tables::Version;
+use ob_sql_read::{Filed, Heading, read_commands, read_heading};
+use ob_sql_rows::Version;
 use sqlite::{Alter, Connection};
 use std::alloc::Global;
 

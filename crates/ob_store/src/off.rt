@@ -1,16 +1,16 @@
 //! Finds the first table that differs from a replayed book.
 ghost use Rattle.std.specs.Prelude.{◌≡◌};
 ghost use Rattle.ob_book.specs.Acts.{ActState};
-ghost use Rattle.ob_parts.specs.Parts.{IsPart};
-ghost use Rattle.ob_tables.specs.declared.version.Version.{Version as AVersion};
+ghost use Rattle.ob_sql_check.specs.Parts.{IsPart};
+ghost use Rattle.ob_sql_rows.specs.declared.version.Version.{Version as AVersion};
 ghost use Rattle.ob_store.specs.Finding.{Finds};
 ghost use Rattle.ob_store.specs.Differing.{IsFirstOff, IsFirstOffOf, IsOff, NoneSo};
 
 use crate::led::Led;
 use ob_base::Stop;
-use ob_parts::holds_part;
+use ob_sql_check::holds_part;
+use ob_sql_rows::{Table, Version};
 use ob_sweep::Timeline;
-use ob_tables::{Table, Version};
 use sqlite::{Alter, Connection};
 
 /// The tables before that of commands, in their order.

@@ -3,18 +3,18 @@ ghost use Rattle.std.specs.Prelude.{◌≡◌, ◌↔◌, map, IsTrue, OnOk};
 ghost use Rattle.sqlite.specs.Held.{state};
 ghost use Rattle.sqlite.specs.State.{HasCleanDisk};
 ghost use Rattle.ob_base.specs.Stop.{out_of_memory};
-ghost use Rattle.ob_commit.specs.Keeps.{KeepsIn};
-ghost use Rattle.ob_compare.specs.Reading.{IsInputError, IsReadFault, bad_book};
-ghost use Rattle.ob_tables.specs.Rows.{Tables, table_name};
-ghost use Rattle.ob_tables.specs.declared.version.Version.{Version as AVersion};
+ghost use Rattle.ob_sql_write.specs.Keeps.{KeepsIn};
+ghost use Rattle.ob_sql_read.specs.Reading.{IsInputError, IsReadFault, bad_book};
+ghost use Rattle.ob_sql_rows.specs.Rows.{Tables, table_name};
+ghost use Rattle.ob_sql_rows.specs.declared.version.Version.{Version as AVersion};
 ghost use Rattle.ob_store.specs.Differing.{NoneSo};
 ghost use Rattle.ob_store.specs.Shapes.{HasShape, IsShapeOf};
 ghost use Rattle.ob_store.specs.Versions.{AnyTrees, Asks, Looks, Tells};
 
 use crate::named::BAD_BOOK;
 use ob_base::{Fault, Refusal, Stop};
-use ob_compare::has_version;
-use ob_tables::Table;
+use ob_sql_read::has_version;
+use ob_sql_rows::Table;
 use sqlite::{Alter, Connection, Error, ErrorCode};
 use sqlite_schema::schema;
 

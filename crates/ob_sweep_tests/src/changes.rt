@@ -1,6 +1,7 @@
 //! Tests of the sections that a change of the switching log touches, their new outage intervals,
 //! and the searches it takes.
 use crate::example::tell;
+use ob_sweep::scratch_law;
 use std::test::Fail;
 
 // In the second case neither the bus nor the section without a device is touched. From 3600 on S1
@@ -51,5 +52,6 @@ a change in a day of 2024: switch T1 close 1704071400 3 K2 => \
 
 #[test]
 fn changes_of_the_sheet(rt: HostRuntime) -> Result<(), Fail> {
+    scratch_law();
     tell(&rt, rt.alloc(), CHANGES)
 }

@@ -179,10 +179,10 @@ fn adopt<T: Timeline>(
     Ok(())
 }
 
-/// Answers the outage intervals built before a change that is asked for, the planned changes of
-/// them, and the searches that this took. A change of the network is already made, one of the
-/// switching log isn't yet.
-pub fn planned<T: Timeline>(
+// Answers the outage intervals built before a change that is asked for, the planned changes of
+// them, and the searches that this took. A change of the network is already made, one of the
+// switching log isn't yet.
+fn planned<T: Timeline>(
     alloc: Global,
     net: &mut Net,
     sheet: &Sheet,

@@ -23,10 +23,6 @@ mod feeders;
 #[cfg(test)]
 mod lives;
 #[cfg(test)]
-mod plain;
-#[cfg(test)]
-mod random;
-#[cfg(test)]
 mod rolls;
 #[cfg(test)]
 mod sheet;

@@ -26,7 +26,10 @@ fn told(alloc: Global, job: &Job) -> Result<String, AllocError> {
             let (book, first, zone) = (book.as_str(), first.as_str(), zone.as_str());
             format!(in alloc; "init {book} {first} {days} {zone}")
         }
-        Job::Import { book, input } => two_words(alloc, "import", book.as_str(), input.as_str()),
+        Job::Import { book, input, whole } => {
+            let word = if *whole { "import whole" } else { "import" };
+            two_words(alloc, word, book.as_str(), input.as_str())
+        }
         Job::Export { book, output } => two_words(alloc, "export", book.as_str(), output.as_str()),
         Job::Interruptions { book, output } => {
             two_words(alloc, "interruptions", book.as_str(), output.as_str())
@@ -54,6 +57,7 @@ fn by_word(by: By) -> &'static str {
         By::Whole => "whole",
         By::Feeder => "feeder",
         By::Month => "month",
+        By::Day => "day",
         By::Cause => "cause",
         By::Section => "section",
     }
@@ -69,6 +73,8 @@ outagebook total => total
 outagebook init --first 2026-01-01 --days 31 --zone EST5 => init book.db 2026-01-01 31 EST5
 outagebook init --zone=EST5 --days=65535 --book=a.db --first=2026-01-01 => init a.db 2026-01-01 65535 EST5
 outagebook import rows.csv => import book.db rows.csv
+outagebook import --whole rows.csv => import whole book.db rows.csv
+outagebook import rows.csv --book=a.db --whole => import whole a.db rows.csv
 outagebook export --book a.db moves.csv => export a.db moves.csv
 outagebook interruptions rows.csv => interruptions book.db rows.csv
 outagebook interruptions --book a.db rows.csv => interruptions a.db rows.csv
@@ -76,6 +82,7 @@ outagebook table => table book.db -
 outagebook indices => indices book.db whole 300
 outagebook indices --by=feeder --over 1 => indices book.db feeder 1
 outagebook indices --by month --over=99999 --book a.db => indices a.db month 99999
+outagebook indices --by=day => indices book.db day 300
 outagebook indices --by cause => indices book.db cause 300
 outagebook indices --by section => indices book.db section 300
 outagebook audit => audit book.db -
@@ -107,9 +114,11 @@ outagebook table --version => Usage: outagebook
 outagebook version => Usage: outagebook
 outagebook --book=a.db table => Usage: outagebook
 outagebook table a.db => Usage: outagebook
+outagebook import --whole => <INPUT>
+outagebook import --whole=true rows.csv => Usage: outagebook
 outagebook interruptions => <OUTPUT>
 outagebook interruptions a.csv b.csv => Usage: outagebook
-outagebook indices --by=day => --by has to be one of: whole, feeder, month, cause, section
+outagebook indices --by=week => --by has to be one of: whole, feeder, month, day, cause, section
 outagebook indices --over=0 => 0 is not in 1..=99999
 outagebook indices --over=100000 => 100000 is not in 1..=99999
 outagebook indices feeder => Usage: outagebook

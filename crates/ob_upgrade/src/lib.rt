@@ -5,7 +5,7 @@
 //! figures, over the states of today. Promises that a body text of version 1 is read as its
 //! command, and that no other text is read. Promises which commands version 1 accepted, and that
 //! its figures are those of today if every device is in service from the first second on.
-//! `ob_compare`, `ob_parts` and `ob_store` use it to read the tables of such a book.
+//! `ob_sql_read`, `ob_sql_check` and `ob_store` use it to read the tables of such a book.
 #![tactic(auto)]
 
 mod body;

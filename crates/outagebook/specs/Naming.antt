@@ -1,5 +1,5 @@
 -- The task that a job names.
-use Rattle.std.specs.Prelude.{◌≡◌, ⊤, ℕ, List, Option, Some, None}
+use Rattle.std.specs.Prelude.{◌≡◌, ⊤, ℕ, true, false, List, Option, Some, None}
 use Rattle.ob_cli.specs.declared.job.By as words
 use Rattle.ob_cli.specs.declared.job.By.TheVariants as named
 use Rattle.ob_selections.specs.declared.selection.By.{By}
@@ -18,15 +18,17 @@ abbrev pub listed_by : words.By → By
 listed_by named.Whole = listing.Whole
 listed_by named.Feeder = listing.Feeder
 listed_by named.Month = listing.Month
+listed_by named.Day = listing.Day
 listed_by named.Cause = listing.Cause
 listed_by named.Section = listing.Section
 
-module _ {B E : Type 0} where
+module _ {B O E : Type 0} where
   -- the task of a job's name is done on the book that the job names, with the values of its options, and no other
-  abbrev pub DoesJob : Job → List ℕ → Task InputFile OutputFile (Server B E) → Type 0
+  abbrev pub DoesJob : Job → List ℕ → Task InputFile OutputFile (Server B O E) → Type 0
   DoesJob (jobs.Init book first days zone) on (tasks.Init start count rule) =
       (on ≡ book) × (start.now ≡ first) × (count ≡ days) × (rule.now ≡ zone)
-  DoesJob (jobs.Import book input) on (tasks.Import file) = (on ≡ book) × (file.path.now ≡ input)
+  DoesJob (jobs.Import book input false) on (tasks.Import file) = (on ≡ book) × (file.path.now ≡ input)
+  DoesJob (jobs.Import book input true) on (tasks.ImportWhole file) = (on ≡ book) × (file.path.now ≡ input)
   DoesJob (jobs.Export book output) on (tasks.Export file) = (on ≡ book) × (file.path.now ≡ output)
   DoesJob (jobs.Interruptions book output) on (tasks.Interruptions file) = (on ≡ book) × (file.path.now ≡ output)
   DoesJob (jobs.Table book) on tasks.Table = on ≡ book

@@ -3,9 +3,11 @@ use Rattle.std.specs.Prelude.{◌≡◌, ⊤, ℕ, List, Option, None, Result, O
 use Rattle.ob_base.specs.declared.stop.Stop.{Stop}
 use Rattle.ob_base.specs.declared.stop.Stop.TheVariants.{Fault}
 use Rattle.ob_base.specs.declared.stop.Fault.{Fault as AFault}
+use Rattle.ob_store.specs.Calls.{TellsFaults}
 use Rattle.ob_store.specs.Keepers.{Ghosts, KeeperValue}
 use Rattle.ob_desk.specs.Listening.{LeavesKeeper, ServesStreams, most_streams, unserved_fault}
 use Rattle.ob_desk.specs.declared.listen.Unserved.{Unserved}
+use Rattle.ob_desk.specs.declared.listen.Unserved.TheVariants as unserved
 use Rattle.outagebook.specs.Ending.{TriesToTell, stop_line}
 use Rattle.outagebook.specs.declared.desk.Complaints.{Complaints}
 
@@ -19,10 +21,12 @@ stop_of_end (Ok done) = Ok tt
 stop_of_end (Err end) = Err (Fault (unserved_fault end))
 
 module _ {S L : Type 0} (g : Ghosts S) (tells : L → AFault → L → Type 0) where
-  -- a desk served so many streams, or fewer where it ended before, gave the faults of streams to its log, and left the keeper so
+  -- a desk served so many streams, or fewer where it ended before, gave the faults of streams to its log, left the keeper so, and
+  -- has a cause where the store is reported to have failed
   pub record ServesDesk (streams : ℕ) (old new : KeeperValue S) (before after : L) (result : Result ⊤ Stop) : Type 0 where
     pub end : Result ⊤ Unserved
     pub stopped : result ≡ stop_of_end end
     pub left : ℕ
     pub served : ServesStreams g tells old new before after (most_streams streams) left end
     pub keeper : LeavesKeeper g old new end
+    pub faults : TellsFaults g old new (end ≡ Err unserved.Store)

@@ -18,7 +18,7 @@ use ob_stream::Watched;
 use ob_sweep::{Timeline, Windowed};
 use sqlite::{Alter, Connection, Error, ErrorCode, FileFrom, FileStore, Unknown};
 use std::fs::File;
-use std::io::{self, Read, Stderr, Write};
+use std::io::{self, Read, Stderr, Stdout, Write};
 
 /// The keeper of a book in a file.
 type FileKeeper = Keeper<FileStore<FileFrom<Unknown>>, Windowed>;
@@ -56,8 +56,8 @@ fn run_over<S: Alter, T: Timeline, W: Write>(
 ) -> Result<(), Unfinished>
     ensures { RunsTask S.Store ⟦<InputFile<'static> as OpenInput>⟧.opens ⟦<File as Read>⟧.remaining
         ⟦<OutputFile<'static> as OpenOutput>⟧.opens ⟦<File as Write>⟧.contents
-        ⟦<Server<'static, Sockets<'static>, Stderr> as ServeBook<S, T>>⟧.takes
-        ⟦<Server<'static, Sockets<'static>, Stderr> as ServeBook<S, T>>⟧.serves W.contents task.entry
+        ⟦<Server<Sockets<'static>, Stdout, Stderr> as ServeBook<S, T>>⟧.takes
+        ⟦<Server<Sockets<'static>, Stdout, Stderr> as ServeBook<S, T>>⟧.serves W.contents task.entry
         keeper.old keeper.new writer.old writer.new result }
 {
     let mut telling = Telling::new(rt);

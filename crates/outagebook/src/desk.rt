@@ -11,7 +11,7 @@ use ob_store::{Alter, Keeper};
 use ob_stream::Watched;
 use ob_sweep::Timeline;
 use std::alloc::Global;
-use std::io::{Stderr, Write};
+use std::io::{Stderr, Stdout, Write};
 use std::net::TcpListener;
 
 /// Prints the faults that ended streams.
@@ -34,16 +34,17 @@ impl<E: Write> FaultLog for Complaints<E> {
 /// Serves a book over HTTP at a port of 127.0.0.1, a given number of streams one after another, and
 /// prints the port. If the given port is 0, it takes a free one.
 #[derive(Drop)]
-pub(crate) struct Server<'r, B, E> {
-    rt: &'r HostRuntime,
+pub(crate) struct Server<B, O, E> {
     sockets: B,
     port: u16,
     streams: u64,
+    out: Watched<O>,
     log: Complaints<E>,
 }
 
-/// The server over the system's sockets, which prints faults on standard error.
-pub(crate) type SocketServer<'r> = Server<'r, Sockets<'r>, Stderr>;
+/// The server over the system's sockets, which prints its port on standard output and faults on
+/// standard error.
+pub(crate) type SocketServer<'r> = Server<Sockets<'r>, Stdout, Stderr>;
 
 impl SocketServer<'_> {
     /// The server of so many streams at a port.
@@ -52,10 +53,10 @@ impl SocketServer<'_> {
         ensures streams { result.streams ≡ streams }
     {
         Server {
-            rt,
             sockets: Sockets { rt },
             port,
             streams,
+            out: Watched::new(rt.stdout()),
             log: Complaints {
                 alloc: rt.alloc(),
                 err: Watched::new(rt.stderr()),
@@ -64,21 +65,21 @@ impl SocketServer<'_> {
     }
 }
 
-impl<B: Bind, E: Write, S: Alter, T: Timeline> ServeBook<S, T> for Server<'_, B, E> {
+impl<B: Bind, O: Write, E: Write, S: Alter, T: Timeline> ServeBook<S, T> for Server<B, O, E> {
     ghost use Rattle.std.specs.Prelude.{◌≡◌};
     ghost use Rattle.outagebook.specs.Ports.{TakesPort};
     ghost use Rattle.outagebook.specs.Serving.{ServesDesk, TellsFault};
 
     type Port = TcpListener;
 
-    ghost takes = { λ old result new. (new ≡ record old { sockets = new.sockets })
-        × TakesPort B.binds old.sockets old.port result new.sockets };
+    ghost takes = { λ old result new. (new ≡ record old { sockets = new.sockets; out = new.out })
+        × TakesPort O.contents B.binds old.sockets old.port old.out result new.sockets new.out };
 
     ghost serves = { λ old _ keeper result left new. (new ≡ record old { log = new.log })
         × ServesDesk S.Store (TellsFault E.contents) old.streams keeper left old.log new.log result };
 
     fn take(&mut self) -> Result<TcpListener, Stop> {
-        take_port(self.rt, &mut self.sockets, self.port)
+        take_port(self.log.alloc, &mut self.sockets, self.port, &mut self.out)
     }
 
     fn serve(&mut self, port: TcpListener, keeper: &mut Keeper<S, T>) -> Result<(), Stop> {

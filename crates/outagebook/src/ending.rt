@@ -90,7 +90,8 @@ fn tell_text<E: Write>(text: &[u8], err: &mut Watched<E>)
     let _ = write_all(err, text);
 }
 
-fn write_all<W: Write>(writer: &mut Watched<W>, text: &[u8]) -> Result<(), Fault>
+/// Writes all of a text, or a first part if the writer fails.
+pub(crate) fn write_all<W: Write>(writer: &mut Watched<W>, text: &[u8]) -> Result<(), Fault>
     ensures { WritesOrFails W.contents writer.old writer.new text.now result }
 {
     let mut retries = Retries::new();

@@ -21,6 +21,7 @@ pub(crate) fn begin<I, O, V>(
     match task {
         Task::Init { first, days, zone } => look_at_period(alloc, first, *days, zone),
         Task::Import(_)
+        | Task::ImportWhole(_)
         | Task::Export(_)
         | Task::Interruptions(_)
         | Task::Table

@@ -1,8 +1,12 @@
 //! The port at which a book is served.
-ghost use Rattle.std.specs.Prelude.{IfNone, IfSome, ℕ};
-ghost use Rattle.outagebook.specs.Ports.{IsGiven, IsLocal, TakesPort};
+ghost use Rattle.std.specs.Prelude.{◌≡◌, IfNone, IfOk, IfSome, string_bytes, ℕ};
+ghost use Rattle.outagebook.specs.Ports.{IsGiven, IsLocal, TakesPort, TellsPort, port_line};
 
+use crate::ending::write_all;
 use ob_base::{Fault, Stop};
+use ob_stream::Watched;
+use std::alloc::{AllocError, Global};
+use std::io::Write;
 use std::net::{Ipv4Addr, SocketAddr, SocketAddrV4, TcpListener};
 
 /// What gives a listener at an address.
@@ -59,18 +63,37 @@ fn address_of(port: u16) -> SocketAddrV4
 }
 
 /// Takes a port of 127.0.0.1 and prints it. If the given port is 0, it takes a free one.
-pub(crate) fn take_port<B: Bind, R: Print>(
-    rt: &R,
+pub(crate) fn take_port<B: Bind, W: Write>(
+    alloc: Global,
     sockets: &mut B,
     port: u16,
+    out: &mut Watched<W>,
 ) -> Result<TcpListener, Stop>
-    ensures { TakesPort B.binds sockets.old port result sockets.new }
+    ensures { TakesPort W.contents B.binds sockets.old port out.old result sockets.new out.new }
 {
     let Some((listener, bound)) = sockets.bind(address_of(port)) else {
         return Err(Stop::Fault(Fault::Input));
     };
-    match println!(rt; "listening 127.0.0.1:{bound}") {
+    match tell_port(alloc, bound, out) {
         Ok(()) => Ok(listener),
-        Err(_) => Err(Stop::Fault(Fault::Output)),
+        Err(stop) => Err(stop),
     }
+}
+
+/// Prints a port.
+fn tell_port<W: Write>(alloc: Global, port: u16, out: &mut Watched<W>) -> Result<(), Stop>
+    ensures { TellsPort W.contents out.old out.new port result }
+{
+    let line = line_of(alloc, port)?;
+    match write_all(out, line.as_bytes()) {
+        Ok(()) => Ok(()),
+        Err(fault) => Err(Stop::Fault(fault)),
+    }
+}
+
+/// The line that tells a port.
+fn line_of(alloc: Global, port: u16) -> Result<String, AllocError>
+    ensures { IfOk result (λ line. string_bytes line ≡ port_line port) }
+{
+    format!(in alloc; "listening 127.0.0.1:{port}\n")
 }

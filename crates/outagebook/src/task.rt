@@ -34,7 +34,13 @@ pub(crate) fn task_of<'w>(rt: &'w HostRuntime, job: &'w Job) -> Option<BookTask<
             let days = *days;
             (book, Task::Init { first, days, zone })
         }
-        Job::Import { book, input } => (book, Task::Import(InputFile { rt, path: input })),
+        Job::Import { book, input, whole } => {
+            let input = InputFile { rt, path: input };
+            match whole {
+                true => (book, Task::ImportWhole(input)),
+                false => (book, Task::Import(input)),
+            }
+        }
         Job::Export { book, output } => (book, Task::Export(OutputFile { rt, path: output })),
         Job::Interruptions { book, output } => {
             (book, Task::Interruptions(OutputFile { rt, path: output }))
@@ -60,6 +66,7 @@ fn task_by(by: WordsBy) -> By
         WordsBy::Whole => By::Whole,
         WordsBy::Feeder => By::Feeder,
         WordsBy::Month => By::Month,
+        WordsBy::Day => By::Day,
         WordsBy::Cause => By::Cause,
         WordsBy::Section => By::Section,
     }

@@ -10,14 +10,14 @@ from dataclasses import dataclass, field, replace
 from datetime import datetime
 from functools import cached_property
 
-from outage_tools.counts import Counts, counts_of
+from outage_tools.counts import Counts
 from outage_tools.feeding import Feeding
 from outage_tools.interruptions import Interruption, blocks_by_section
 from outage_tools.normal_state import SOURCE
 from outage_tools.oms.known import Known, Service
 from outage_tools.oms.steps import Step
 from outage_tools.rows import GRID, Block, Book, Device, Entry, Period, Section
-from outage_tools.supply import Run, interruptions_of, sweep
+from outage_tools.supply import Run, counts_of, interruptions_of, sweep
 
 
 def second_of(text: str) -> int | None:

@@ -6,6 +6,7 @@ from dataclasses import replace
 from fractions import Fraction
 
 from outage_tools.feeding import ways_of
+from outage_tools.graphs import steps
 from outage_tools.implausible.draft import total_of
 from outage_tools.implausible.lines import MOST_NAMED, LastBook, Line, Look, percent
 from outage_tools.oms.known import Service
@@ -28,13 +29,7 @@ def first_names(names: Iterable[str]) -> str:
 def last_sections(look: Look) -> list[int]:
     """The sections that are reached with all devices in their normal positions, and behind which nothing is."""
     ways = ways_of(look.draft.book, look.draft.period.first)
-    parents, waiting = {GRID: GRID}, [GRID]
-    while waiting:
-        node = waiting.pop()
-        for _, other in ways.get(node, ()):
-            if other not in parents:
-                parents[other] = node
-                waiting.append(other)
+    parents = {node: before for before, node in steps(ways, [GRID])}
     return sorted((parents.keys() & look.draft.book.sections.keys()) - set(parents.values()))
 
 

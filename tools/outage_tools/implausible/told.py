@@ -7,7 +7,7 @@ from datetime import date, timedelta
 from fractions import Fraction
 from functools import cached_property
 
-from outage_tools.counts import decimal_text, indices_of
+from outage_tools.counts import Rates, decimal_text
 from outage_tools.implausible import clocks, days, register, steps
 from outage_tools.implausible.lines import LastBook, Line, Look, hours_text, percent, share_of, step_text
 from outage_tools.keys import Keys
@@ -47,7 +47,7 @@ class Implausible:
     @property
     def saidi(self) -> Fraction | None:
         book = self.look.draft.book
-        return indices_of(self.look.draft.counts, book.served_seconds(), book.period.length)["SAIDI"]
+        return Rates(self.look.draft.counts, book.served_seconds(), book.period.length).saidi
 
 
 def up_to(period: Period, exported: str | None) -> int:

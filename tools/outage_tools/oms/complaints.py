@@ -1,11 +1,15 @@
 """Complaints about rows that can't be read, and notes on what was left out or changed of those that can."""
 
-from collections.abc import Iterator
+import re
+from collections.abc import Iterator, Sequence
 from contextlib import contextmanager
 from dataclasses import dataclass, field
 from typing import Protocol
 
 HEADER = 0  # the number of the line of column names
+MOST_LINES = 1_000
+MOST_ALIKE = 20  # rows of one file that are told one by one though all of them have the same wrong
+VALUES = re.compile(r"'[^']*'|\b[A-Z0-9][\w:./+-]*")  # of a row, in what is told of it
 
 
 class BadRow(Exception):
@@ -53,6 +57,25 @@ class Complaints:
 
     def add(self, row: Place, text: str) -> None:
         self.found.append(Complaint(row.file, row.number, text))
+
+
+def lines_of(complaints: Sequence[Complaint], rest_in: str, most_alike: int = MOST_ALIKE) -> list[str]:
+    """Complaints as lines. Of many that say the same of other values the first ones are told, so that they hide no others;
+    `rest_in` says where all of them are."""
+    alike: dict[tuple[str, str], list[Complaint]] = {}
+    for each in complaints:
+        alike.setdefault((each.file, VALUES.sub("", each.text)), []).append(each)
+    found: list[str] = []
+    for listed in alike.values():
+        found += map(str, listed[:most_alike])
+        if len(listed) > most_alike:
+            rows = f"rows {listed[most_alike].row} to {listed[-1].row}"
+            found.append(
+                f"{listed[0].file}: the same of {len(listed) - most_alike} more rows ({rows}), which {rest_in}"
+            )
+    if len(found) > MOST_LINES:
+        found[MOST_LINES:] = [f"and {len(found) - MOST_LINES} more lines, which {rest_in}"]
+    return found
 
 
 LEFT_OUT, CHANGED, NOTICED = "left out", "changed", "noticed"

@@ -25,7 +25,7 @@ from outage_tools.compare import open_book
 from outage_tools.errors import BookError
 from outage_tools.keys import Keys, add_keys_argument, keys_for
 from outage_tools.oms import causes, customers, network, outages, told
-from outage_tools.oms.complaints import Notes
+from outage_tools.oms.complaints import Notes, lines_of
 from outage_tools.oms.conversion import Conversion
 from outage_tools.oms.fields import LATEST_MOMENT
 from outage_tools.oms.files import Export, Format, Row, add_format_arguments, format_of
@@ -38,7 +38,6 @@ from outage_tools.zone import Zone
 
 MOST_DAYS = 366
 MOST_PREFIX = 8
-MOST_TOLD = 1_000  # complaints on standard error
 EXPORTS = {
     "oms": "outages and restoration steps",
     "gis": "buses, sections and devices",
@@ -122,10 +121,7 @@ class Run:
         """Nothing is written where a row can't be taken."""
         complaints = self.conversion.complaints.found
         if complaints:
-            listed = [str(complaint) for complaint in complaints[:MOST_TOLD]]
-            if len(complaints) > MOST_TOLD:
-                listed.append(f"and {len(complaints) - MOST_TOLD} more, which --report FILE tells")
-            reported = "\n".join(listed)
+            reported = "\n".join(lines_of(complaints, "--report FILE tells"))
             raise BookError(f"rows can't be read, and nothing was written:\n{reported}")
 
 

@@ -6,7 +6,7 @@ from html import escape
 
 from outage_tools import indices as further
 from outage_tools.compare import Checked
-from outage_tools.counts import SETS, decimal_text, fraction_text, index_decimals, quotient
+from outage_tools.counts import SETS, decimal_text, fraction_text, index_decimals
 from outage_tools.figures import TERMS, meaning_of
 from outage_tools.lists import Groups
 from outage_tools.report.pieces import (
@@ -94,8 +94,8 @@ def exact_part(found: Checked, table_words: Mapping[str, str], indices: FurtherI
     content = f"""
 <p>The figures of the program's annual table: three decimals, and behind them the exact fraction in lowest terms; of ASAI
 five decimals. By IEEE Std 1366-2012; an interruption of more than 300 seconds is sustained.</p>
-<p>{TERMS} Here P is {number(book.period.length)}, S {number(book.served_seconds())} and S / P
-{decimal(quotient(book.served_seconds(), book.period.length))}; W, the customer-seconds without supply, momentary
+<p>{TERMS} Here P is {number(book.period.length)}, S {number(found.whole["all"].served)} and S / P
+{decimal(found.whole["all"].customers)}; W, the customer-seconds without supply, momentary
 interruptions too, is {number(total)}.</p>
 {index_table(table_words, has_marks)}
 <h3>Further indices {COMPUTED}</h3>
@@ -109,9 +109,9 @@ GROUP_TITLES = {"sum": "all groups together", "book": "the book's own"}
 
 
 def count_row(row: Counted) -> TableRow:
-    counts = row.counts
+    counts = row.rates.counts
     amounts = row.customer_seconds, counts.sustained, counts.sustained_seconds, counts.momentary, counts.with_some[0]
-    served = decimal(quotient(row.served, row.length))
+    served = decimal(row.rates.customers)
     cells = [GROUP_TITLES.get(row.row, row.name), SET_NAMES[row.set], served, *map(number, amounts)]
     return TableRow(cells, row.row != "group")
 

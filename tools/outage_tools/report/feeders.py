@@ -8,8 +8,8 @@ from outage_tools.ranking import Ranked, Ranks
 from outage_tools.report.earlier import Earlier, period_text
 from outage_tools.report.pictures import GROUP_HEADS, by_name, group_cells, rates_heads, saidi_bar
 from outage_tools.report.pieces import (
-    COMPUTED,
     NONE,
+    PROVED,
     Column,
     Part,
     TableRow,
@@ -77,7 +77,7 @@ def feeder_part(found: Checked, names: Names, earlier: Earlier | None = None) ->
 <p>{said_of_worst(len(feeders), len(apart))} Each is over the customers of its own sections, by their home feeder.</p>
 {figure(bars_below(bars, "SAIDI by feeder"), note_of(len(feeders)), "below")}
 {table(heads, rows)}"""
-    return Part("feeders", TITLE, COMPUTED, content)
+    return Part("feeders", TITLE, PROVED, content)
 
 
 def said_of_worst(count: int, apart: int) -> str:

@@ -50,10 +50,10 @@ from outage_tools.versions import made_by
 
 NAME = "Outage book"  # what a page's heading begins with where neither a word nor a cover says it
 FOOT = f"""
-<footer><p>{PROVED} are the words and amounts that the proved program printed and keeps: the indices of both sets, and the
-customer-seconds by cause, by day and by command. {COMPUTED} is what the tool of this page adds up of the interruptions that
-the program lists; before it wrote anything, its customer-seconds by cause and feeder, its counts and all fifteen quotients of
-both sets were equal to those of the program's table. Moments are by the clock of the book's zone.</p></footer>"""
+<footer><p>{PROVED} are the words and amounts that the proved program printed and keeps: the indices of both sets, of months, feeders
+and causes, and the customer-seconds by cause, by day and by command. {COMPUTED} is what the tool of this page adds up of the
+interruptions that the program lists; before it wrote anything, their customer-seconds by cause and feeder and their counts
+were equal to those of the program. Moments are by the clock of the book's zone.</p></footer>"""
 
 
 @dataclass(frozen=True)

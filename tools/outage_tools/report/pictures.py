@@ -8,10 +8,10 @@ from fractions import Fraction
 from outage_tools.causes import CauseGroup, CauseRow, cause_group_rows, cause_rows
 from outage_tools.charts import NARROW, Bar, Tick, bars_below, columns, legend
 from outage_tools.compare import Checked
-from outage_tools.counts import SETS
+from outage_tools.counts import SETS, Rates
 from outage_tools.days import DayRow, day_rows, month_rows
 from outage_tools.lists import Groups
-from outage_tools.rates import GroupRow, Rates
+from outage_tools.rates import GroupRow
 from outage_tools.report.pieces import (
     COMPUTED,
     PROVED,
@@ -98,8 +98,8 @@ def day_row(row: DayRow) -> TableRow:
         row.day,
         hours(row.posted),
         decimal(row.begun.saidi, DAY_DECIMALS),
-        number(row.begun.tally.sustained),
-        number(row.begun.tally.momentary),
+        number(row.begun.counts.sustained),
+        number(row.begun.counts.momentary),
         f"by {row.engineer}" if row.is_marked else "",
     ]
     return TableRow(cells, row.is_marked)
@@ -124,7 +124,7 @@ def marked_days(found: Checked) -> str:
 
 def day_table_part(found: Checked) -> Part:
     """The figures of the days, for the end of a page."""
-    rows = [day_row(row) for row in day_rows(found) if row.posted or row.is_marked or row.begun.tally.momentary]
+    rows = [day_row(row) for row in day_rows(found) if row.posted or row.is_marked or row.begun.counts.momentary]
     summary = f"The {len(rows)} days with interruptions or a mark"
     content = f"""
 <p>Customer-hours without supply that lie in the day, momentary interruptions too; minutes per customer served of the
@@ -164,7 +164,7 @@ GROUP_HEADS = numbers("customers served", "customer-hours", "sustained", "moment
 def group_cells(found: Checked, sets: Mapping[str, GroupRow]) -> list[str]:
     """The cells of GROUP_HEADS and rates_heads."""
     whole = sets["all"]
-    counts = number(whole.rates.tally.sustained), number(whole.rates.tally.momentary)
+    counts = number(whole.rates.counts.sustained), number(whole.rates.counts.momentary)
     rates = {name: row.rates for name, row in sets.items()}
     return [minutes(whole.rates.customers), hours(whole.seconds), *counts, *rates_cells(found, rates)]
 
@@ -183,7 +183,7 @@ def month_part(found: Checked) -> Part:
     content = f"""
 {drawn(bars, title, "minutes per customer", note)}
 {table([Column("month"), *GROUP_HEADS, *rates_heads(found)], rows)}"""
-    return Part("months", title, COMPUTED, content)
+    return Part("months", title, PROVED, content)
 
 
 CAUSE_HEADS = [
@@ -195,7 +195,7 @@ CAUSE_HEADS = [
 def cause_row(row: CauseRow) -> TableRow:
     rates = row.rates
     indices = decimal(rates.saifi), minutes(rates.saidi), minutes(rates.caidi)
-    counts = number(rates.tally.sustained), number(rates.tally.momentary)
+    counts = number(rates.counts.sustained), number(rates.counts.momentary)
     return TableRow([row.name, row.code, hours(row.posted), per_cent(row.share), *counts, *indices])
 
 
@@ -208,7 +208,7 @@ def cause_part(found: Checked) -> Part:
         if row.posted
     ]
     note = "Customer-hours without supply under each cause, as the program posted them."
-    summary = "The figures of this picture; shares and indices by cause are computed here"
+    summary = "The figures of this picture; the shares are computed here"
     content = f"""
 {figure(bars_below(bars, "Customer-hours without supply by cause"), note, "below")}
 {behind(summary, table(CAUSE_HEADS, map(cause_row, rows)), len(rows))}"""
@@ -220,9 +220,9 @@ CAUSE_GROUP_HEADS = [Column("group"), *numbers("customer-hours", "share", "susta
 
 def cause_group_row(found: Checked, sets: Mapping[str, CauseGroup]) -> TableRow:
     whole = sets["all"]
-    tally = whole.rates.tally
+    counts = whole.rates.counts
     cells = [whole.name or "in no group", hours(whole.seconds), per_cent(whole.share)]
-    cells += [number(tally.sustained), number(tally.momentary)]
+    cells += [number(counts.sustained), number(counts.momentary)]
     cells += rates_cells(found, {name: group.rates for name, group in sets.items()})
     return TableRow([*cells, ", ".join(whole.causes)])
 

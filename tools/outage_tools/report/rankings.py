@@ -5,7 +5,7 @@ from fractions import Fraction
 from html import escape
 
 from outage_tools.compare import Checked
-from outage_tools.counts import SETS, quotient
+from outage_tools.counts import SETS
 from outage_tools.events import Event, Rule, events_of, told_unfit
 from outage_tools.interruptions import Interruption, joined
 from outage_tools.lists import Groups, Names, told_missing
@@ -51,7 +51,7 @@ def index_heads(found: Checked) -> list[Column]:
 
 
 def index_cells(row: Counted) -> list[str]:
-    saifi, saidi, caidi, asai = (row.indices[index] for index in INDICES)
+    saifi, saidi, caidi, asai = (row.rates.indices[index] for index in INDICES)
     return [decimal(saifi), minutes(saidi), minutes(caidi), per_cent(asai, 3)]
 
 
@@ -62,8 +62,8 @@ def group_rows(found: Checked, groups: Groups) -> Iterator[TableRow]:
         sets.setdefault((row.row, row.name), {})[row.set] = row
     for (kind, name), rows in sets.items():
         whole, shown = rows["all"], SETS if found.book.marks else SETS[:1]
-        counts = number(whole.counts.sustained), number(whole.counts.momentary)
-        customers = minutes(quotient(whole.served, whole.length))
+        counts = number(whole.rates.counts.sustained), number(whole.rates.counts.momentary)
+        customers = minutes(whole.rates.customers)
         indices = [cell for which in shown for cell in index_cells(rows[which])]
         yield TableRow([GROUP_TITLES.get(kind, name), customers, *counts, *indices], kind != "group")
 

@@ -6,11 +6,11 @@ from fractions import Fraction
 from html import escape
 
 from outage_tools.compare import Checked
-from outage_tools.counts import SETS, quotient
-from outage_tools.filings import PLANNED, codes_of, rates_of
-from outage_tools.indices import HOURS, hours_text
+from outage_tools.causes import rates_of_causes
+from outage_tools.counts import SETS
+from outage_tools.filings import PLANNED, codes_of
+from outage_tools.indices import HOURS, OF_PROGRAM, hours_text
 from outage_tools.lists import Groups
-from outage_tools.rates import Rates
 from outage_tools.report.earlier import Earlier, are_alike, period_text
 from outage_tools.report.exact import FurtherIndices
 from outage_tools.report.pieces import (
@@ -95,18 +95,14 @@ def tiles(shown: Sequence[Box]) -> str:
 # What stands below the values of a book's boxes.
 
 
-def value_of_rates(index: str, rates: Rates) -> Fraction | None:
-    return {"SAIDI": rates.saidi, "SAIFI": rates.saifi, "CAIDI": rates.caidi}[index]
-
-
 def planned_lines(found: Checked, groups: Groups | None, index: str) -> list[tuple[str, str]]:
     """Planned and unplanned interruptions apart, where a list of causes has a group of that name."""
     planned = codes_of(groups, PLANNED)
     if not planned or index == "ASAI":
         return []
     kinds = {PLANNED: planned, "unplanned": set(found.book.causes) - planned}
-    rates = {kind: rates_of(found, codes.__contains__, "all") for kind, codes in kinds.items()}
-    return [(kind, box_value(index, value_of_rates(index, each))) for kind, each in rates.items()]
+    rates = {kind: rates_of_causes(found, codes, "all") for kind, codes in kinds.items()}
+    return [(kind, box_value(index, each.indices[index])) for kind, each in rates.items()]
 
 
 def earlier_lines(earlier: Earlier | None, index: str) -> list[tuple[str, str]]:
@@ -125,17 +121,16 @@ def earlier_lines(earlier: Earlier | None, index: str) -> list[tuple[str, str]]:
 
 def in_words(found: Checked) -> str:
     """What the four indices say."""
-    book, counts = found.book, found.counts["all"]
-    served = book.served_seconds()
-    customers = quotient(served, book.period.length)
-    if customers is None or not served:
+    rates = found.whole["all"]
+    if not rates.served:
         return "No customer was in service."
-    saifi = quotient(counts.sustained * book.period.length, served)
-    saidi = quotient(counts.sustained_seconds * book.period.length, 60 * served)
-    caidi = quotient(counts.sustained_seconds, 60 * counts.sustained)
-    each = f", in {decimal(saifi, 2)} interruptions of {minutes(caidi)} minutes each" if caidi is not None else ""
+    each = (
+        f", in {decimal(rates.saifi, 2)} interruptions of {minutes(rates.caidi)} minutes each"
+        if rates.caidi is not None
+        else ""
+    )
     return (
-        f"Of {minutes(customers)} customers served, each was without supply for {minutes(saidi)} minutes on average{each}."
+        f"Of {minutes(rates.customers)} customers served, each was without supply for {minutes(rates.saidi)} minutes on average{each}."
         " Interruptions of more than five minutes count (sustained ones); shorter ones are momentary."
     )
 
@@ -172,7 +167,7 @@ def further_rows(
             before = earlier.before
             values.append(before.indices("all")[index] if own else before.further_indices("all")[index])
         shown = [box_value(index, value) for value in values]
-        yield TableRow([index, *shown, meaning, "the program" if own else "this page's tool"])
+        yield TableRow([index, *shown, meaning, "the program" if own or index in OF_PROGRAM else "this page's tool"])
 
 
 def further_text(

@@ -4,7 +4,7 @@ from collections import defaultdict
 from dataclasses import dataclass
 
 from outage_tools.oms.complaints import Complaints, Notes
-from outage_tools.sections.cut import GRID_AREA, Choice, Cut, Walked, graph_of, walked
+from outage_tools.sections.cut import GRID_AREA, Choice, Cut, Walked, graph_of_edges, walked
 from outage_tools.sections.edges import Edge, Raw
 
 MOST_FEEDERS = 255
@@ -34,7 +34,7 @@ class Circuits:
 
 def circuits_of(raw: Raw) -> Circuits:
     """The walk goes over closed edges, whether they are devices or not."""
-    graph = graph_of((edge for edge in raw.joining() if edge.is_closed), raw.sources)
+    graph = graph_of_edges((edge for edge in raw.joining() if edge.is_closed), raw.sources)
     at: dict[str, str] = {}
     heads: dict[str, Edge] = {}
     walk = walked(graph, raw.sources)

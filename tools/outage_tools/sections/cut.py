@@ -1,15 +1,12 @@
 """The cut: edges that are no devices are contracted, and what remains are areas with devices between them."""
 
-from collections import defaultdict, deque
+from collections import defaultdict
 from collections.abc import Hashable, Iterable, Iterator
 from dataclasses import dataclass
-from typing import Any, TypeAlias, TypeVar
+from typing import Any
 
-from outage_tools.errors import BookError
+from outage_tools.graphs import Graph, graph_of, networkx, reached, steps
 from outage_tools.sections.edges import Edge, Raw
-
-Graph: TypeAlias = Any  # of networkx, which has no types
-Node = TypeVar("Node", bound=Hashable)
 
 GRID_AREA = 0  # the area of the sources
 
@@ -51,33 +48,14 @@ def walked(graph: Graph, starts: Iterable[Hashable], known: Walked | None = None
     """A walk in breadth, from some nodes, or from all that are known already."""
     before: dict[Any, tuple[Any, str] | None] = dict(known.before) if known else {}
     before.update({start: None for start in starts if start not in before})
-    waiting = deque(before)
-    while waiting:
-        node = waiting.popleft()
-        for other, edges in graph.adj[node].items():
-            if other not in before:
-                before[other] = node, min(edges)
-                waiting.append(other)
+    for node, other in steps(graph, list(before)):
+        before[other] = node, min(graph.adj[node][other])
     return Walked(before)
 
 
-def networkx() -> Any:
-    """Debian's networkx."""
-    try:
-        import networkx as found
-    except ImportError:
-        raise BookError(
-            "the cut needs networkx, which this Python hasn't; as root: apt-get install python3-networkx"
-        ) from None
-    return found
-
-
-def graph_of(edges: Iterable[Edge], nodes: Iterable[str] = ()) -> Graph:
+def graph_of_edges(edges: Iterable[Edge], nodes: Iterable[str] = ()) -> Graph:
     """Edges by their labels."""
-    graph = networkx().MultiGraph()
-    graph.add_nodes_from(nodes)
-    graph.add_edges_from((edge.a, edge.b, edge.name) for edge in edges)
-    return graph
+    return graph_of(nodes, ((edge.a, edge.b, edge.name) for edge in edges))
 
 
 @dataclass
@@ -125,11 +103,11 @@ class Cut:
 
 def areas_in(raw: Raw, contracted: Iterable[Edge]) -> dict[str, int]:
     """The number of each node's area: what the edges join that are no devices. The sources are one, with the number 0."""
-    graph = graph_of(contracted, dict.fromkeys(end for edge in raw.edges.values() for end in edge.ends))
+    graph = graph_of_edges(contracted, dict.fromkeys(end for edge in raw.edges.values() for end in edge.ends))
     sources = list(raw.sources)
     graph.add_edges_from((sources[0], other, "") for other in sources[1:])
     number = GRID_AREA
-    found = dict.fromkeys(networkx().node_connected_component(graph, sources[0]), GRID_AREA)
+    found = dict.fromkeys(reached(graph, sources[0]), GRID_AREA)
     for part in networkx().connected_components(graph):
         if not part <= found.keys():
             number += 1
@@ -143,12 +121,9 @@ def cut_of(raw: Raw, choice: Choice) -> Cut:
     area = areas_in(raw, (edge for edge in raw.joining() if not choice.is_device(edge)))
     devices = {edge.name: edge for edge in between if area[edge.a] != area[edge.b]}
     around = [edge for edge in between if area[edge.a] == area[edge.b]]
-    whole, closed = (networkx().MultiGraph() for _ in range(2))
-    for graph in (whole, closed):
-        graph.add_nodes_from(range(max(area.values()) + 1))
-    for edge in devices.values():
-        whole.add_edge(area[edge.a], area[edge.b], edge.name)
-        if edge.is_closed:
-            closed.add_edge(area[edge.a], area[edge.b], edge.name)
+    areas = range(max(area.values()) + 1)
+    joined = [(edge, (area[edge.a], area[edge.b], edge.name)) for edge in devices.values()]
+    whole = graph_of(areas, (ends for _, ends in joined))
+    closed = graph_of(areas, (ends for edge, ends in joined if edge.is_closed))
     fed = walked(closed, [GRID_AREA])
     return Cut(raw, area, devices, around, whole, closed, fed, walked(whole, (), fed))

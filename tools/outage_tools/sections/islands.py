@@ -3,9 +3,10 @@
 from collections.abc import Iterable, Iterator
 from dataclasses import dataclass, field
 
+from outage_tools.graphs import networkx
 from outage_tools.normal_state import TestedDevice, TestedNetwork
 from outage_tools.oms.complaints import Complaints, Notes
-from outage_tools.sections.cut import GRID_AREA, Cut, networkx
+from outage_tools.sections.cut import GRID_AREA, Cut
 from outage_tools.sections.edges import TRANSFORMER, Customer, Edge, Raw
 from outage_tools.sections.near import Near
 from outage_tools.sections.placing import Placed

@@ -5,7 +5,7 @@ from dataclasses import dataclass, field
 
 from outage_tools.errors import BookError
 from outage_tools.oms import outages
-from outage_tools.oms.complaints import BadRow, Complaints, Notes
+from outage_tools.oms.complaints import BadRow, Complaints, Notes, lines_of
 from outage_tools.oms.fields import shown
 from outage_tools.oms.files import Export, Format, Row, Spot
 from outage_tools.sections.edges import SWITCHING, Customer, Edge, Point, Raw
@@ -18,7 +18,6 @@ CUSTOMER_COLUMNS = ("customer", "transformer", "node", "meter", *SERVICE)
 CUSTOMER_REQUIRED = ("customer", "since", "until")
 OMS_COLUMNS = tuple(dict.fromkeys((*outages.COLUMNS, *outages.COUNTS)))
 SOURCE_COLUMNS = ("node",)
-MOST_TOLD = 1_000  # complaints on standard error
 
 
 @dataclass
@@ -43,10 +42,7 @@ class Reading:
         """Nothing is written where something is wrong."""
         complaints = self.complaints.found
         if complaints:
-            listed = [str(complaint) for complaint in complaints[:MOST_TOLD]]
-            if len(complaints) > MOST_TOLD:
-                listed.append(f"and {len(complaints) - MOST_TOLD} more, which --report FILE tells")
-            raise BookError("\n".join(["nothing was written:", *listed]))
+            raise BookError("\n".join(["nothing was written:", *lines_of(complaints, "--report FILE tells")]))
 
     def check_columns(self) -> None:
         """A column's name that no file has is a slip of the pen."""

@@ -19,8 +19,10 @@ from outage_tools.versions import Made
 from outage_tools.workbook.recount import recount
 from outage_tools.workbook.sheets import MOST_ROWS, Cell, Sheet, parts_of, sheet_of
 
-TESTED = "tested: counted by a tool, which was compared with the annual table first"
+TESTED = "tested: added up by a tool of the interruptions that the program lists"
+SELECTED = "counts and indices are the program's, proved; the rest is tested"
 MIXED = "those from the program are proved; the others are tested"
+BY_PROGRAM = ("months", "feeders", "ranking", "causes", "sections")  # sheets of what it says of each
 ABOUT_COLUMNS = {
     "what": "a fact of the book, or the name of a sheet",
     "is": "the fact, or what the sheet shows",
@@ -67,13 +69,13 @@ def figure_sheets(found: Checked, wanted: Wanted) -> Iterator[Sheet]:
         "feeders": lambda: figures.feeders(found),
         "ranking": lambda: figures.ranking(found, wanted.earlier),
         "causes": lambda: figures.causes(found),
-        "days": lambda: figures.days(found),
         "sections": lambda: figures.sections(found),
+        "days": lambda: figures.days(found),
         "customers": lambda: figures.customers(found),
         "events": lambda: figures.events(found, wanted.rule or DEFAULT_RULE),
     }
     for name, make in shown.items():
-        yield sheet_of(named(make(), found, wanted), by_tool(name), TESTED)
+        yield sheet_of(named(make(), found, wanted), by_tool(name), SELECTED if name in BY_PROGRAM else TESTED)
     if wanted.section_groups is not None:
         yield sheet_of(groups(found, wanted.section_groups), by_tool("groups"), TESTED)
     if wanted.cause_groups is not None:
@@ -111,7 +113,7 @@ def facts(found: Checked, wanted: Wanted, made: Made) -> Iterator[tuple[str, str
     yield "sustained", "an interruption of more than 300 seconds; one of at most 300 is momentary"
     yield "unmarked", "without the interruptions that begin on a day that an engineer has marked as a major event day"
     yield "exact", "a column `.., exact` has the fraction in lowest terms as text; the number has its decimals, rounded half up"
-    yield "compared", "before anything was written, the customer-seconds, counts and fifteen indices of both sets were equal to the program's annual table"
+    yield "compared", "before anything was written, the customer-seconds and counts of the interruptions were equal to the program's"
 
 
 def about(found: Checked, wanted: Wanted, made: Made, sheets: Sequence[Sheet]) -> Sheet:

@@ -5,8 +5,7 @@ from dataclasses import dataclass
 from fractions import Fraction
 
 from outage_tools.compare import Checked, figures_of_table
-from outage_tools.counts import SETS, Counts, indices_of
-from outage_tools.rates import counted
+from outage_tools.counts import SETS
 from outage_tools.workbook.sheets import Cell, Decimal, Formula, Sheet, letters_of
 
 NAME = "recount"
@@ -126,7 +125,7 @@ class Recount:
     def fill_set(self, which: str, length: str, served: str) -> None:
         """The counts of one of the two sets, and the indices that are their quotients."""
         counts, without = self.found.counts[which], "" if which == "all" else ", without those that are marked"
-        indices = indices_of(counts, self.served, self.length)
+        indices = self.found.whole[which].indices
         saidi = self.index("SAIDI", which)
         follows = counts.sustained_seconds if saidi is None else int(saidi * 60 * self.served / self.length)
         said = {
@@ -145,12 +144,10 @@ class Recount:
 
     def fill_by_limit(self, length: str, served: str) -> None:
         """The same indices by another limit between sustained and momentary, which the reader may change."""
-        told = "change it: the rows below count what is longer than so many seconds. No program says these figures"
+        told = "change it: the rows below count what is longer than so many seconds, as outagebook indices --over prints it"
         limit = self.given("another limit, seconds", LIMIT, told)
         for which in SETS:
-            longer = [each for each in counted(self.found, which) if each.seconds > LIMIT]
-            counts = Counts(sum(each.customers for each in longer), sum(each.customer_seconds for each in longer))
-            indices = indices_of(counts, self.served, self.length)
+            indices = self.found.selected("whole", LIMIT)[which]["whole"].indices
             wanted = ("seconds", f'">"&{limit}')
             customers, seconds = (
                 f"({self.rows.total_if(column, *wanted, which)})" for column in ("customers", "customer_seconds")

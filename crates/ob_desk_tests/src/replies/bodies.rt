@@ -1,8 +1,8 @@
 //! A test of the JSON body of a reply with the least amount. The other bodies are those of
 //! `commands.rt`, `views.rt` and `imports.rt`.
 use ob_base::Stop;
+use ob_http_replies::accepted_text;
 use ob_post::{Dim, Moved};
-use ob_replies::accepted_text;
 
 const LEAST: Moved = Moved {
     dim: Dim::Day,

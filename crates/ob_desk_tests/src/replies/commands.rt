@@ -1,7 +1,7 @@
 //! Tests of commands as JSON.
 use ob_base::{Refusal, Stop};
 use ob_command::{Command, body_text};
-use ob_replies::{json_commands_law, json_plans_law, read_command, read_plan};
+use ob_http_replies::{json_commands_law, json_plans_law, read_command, read_plan};
 use std::alloc::Global;
 use std::process::Abort;
 use std::test::Fail;

@@ -1,7 +1,7 @@
 //! Tests of the statuses of replies to refusals and imports; further ones are those of
 //! `commands.rt`. The bytes of replies are those of whole streams.
 use ob_base::Refusal;
-use ob_replies::{Status, refusal_status, report_status};
+use ob_http_replies::{Status, refusal_status, report_status};
 
 #[test]
 fn refusals_and_imports(rt: HostRuntime) {

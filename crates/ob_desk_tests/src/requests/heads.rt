@@ -3,7 +3,7 @@ use crate::requests::reading::{are_read, is_read};
 use crate::script::Many;
 use crate::streams::pieces;
 use crate::texts::{STORM, request};
-use ob_requests::Method;
+use ob_http_requests::Method;
 use std::alloc::{AllocError, Global};
 use std::process::Abort;
 

@@ -3,7 +3,7 @@ use crate::script::Many;
 use crate::streams::Ways;
 use crate::texts::many;
 use ob_harness::{Sink, Source};
-use ob_requests::{Ahead, HeadRefusal, Method, Next, Request, read_request};
+use ob_http_requests::{Ahead, HeadRefusal, Method, Next, Request, read_request};
 use ob_stream::{Retries, Watched};
 use std::alloc::{AllocError, Global};
 use std::process::Abort;

@@ -1,6 +1,6 @@
 -- The streams so far have left the book to further commands.
 use Rattle.std.proofs.Common.{◌≡◌, None, false}
-use Rattle.ob_store.specs.Calls.{IfHeld}
+use Rattle.ob_store.specs.Calls.{IfHeld, TellsFaults}
 use Rattle.ob_desk.specs.Crashes.{IsLeft}
 use Rattle.ob_desk.specs.Listening.{has_failed, streams_left}
 use Rattle.ob_desk.specs.Standing.{IsKept}
@@ -13,6 +13,7 @@ invariant-serving g l = record {
   left : IfHeld g.S.Store l.fn.keeper l.keeper (λ b. IsLeft g.S.Store l.keeper b None);
   served : SoFar g.S.Store g.L.FaultLog.tells l.fn.keeper l.keeper l.fn.log l.log (streams_left l.fn.listener) (streams_left l.listener);
   well : has_failed l.fn.listener ≡ false → has_failed l.listener ≡ false;
+  tells : TellsFaults g.S.Store l.fn.keeper l.keeper ⊥;
 }
 
 abbrev pub decreases-serving : goal.decreases-serving

@@ -1,6 +1,8 @@
 use Rattle.std.proofs.Common.{Ok}
-use Rattle.ob_requests.specs.Reading.{message_of}
-use Rattle.ob_replies.specs.declared.reply.MediaType.TheVariants.{Json}
+use Rattle.ob_http_requests.specs.Reading.{message_of}
+use Rattle.ob_http_replies.specs.declared.reply.MediaType.TheVariants.{Json}
+use Rattle.ob_store.proofs.Faults.{tells_as}
+use Rattle.ob_desk.proofs.FaultLemmas.{same-err, written-no-store}
 use Rattle.ob_desk.proofs.AnswerLemmas.{answer-cause, as-written, unanswered, written-answered, written-cause, written-less}
 use Rattle.ob_desk.proofs.StandLemmas.{kept-by, still-some}
 use Rattle.ob_desk.proofs.reply.reply_to.Goals as goal
@@ -34,3 +36,10 @@ pub returns-in-Err-clause-cause : goal.returns-in-Err-clause-cause
 returns-in-Err-clause-cause g c =
     let called = c.in-Err.ensures in
     answer-cause g.S.Store c.write_text-in-Err.new.writer c.args.keeper.now c.answer.new.keeper (message_of c.args.request.now) c.args.ends c.in-Err.fault called.unopened called.faults
+
+pub returns-in-Ok-clause-tells : goal.returns-in-Ok-clause-tells
+returns-in-Ok-clause-tells g c =
+    tells_as g.S.Store c.args.keeper.now c.answer.new.keeper _ _ (λ e. absurd (written-no-store c.write_text.result c.write_text.new.writer c.write_text.ensures.fault e)) c.in-Ok.ensures.tells
+
+pub returns-in-Err-clause-tells : goal.returns-in-Err-clause-tells
+returns-in-Err-clause-tells g c = tells_as g.S.Store c.args.keeper.now c.answer.new.keeper _ _ (same-err c.in-Err.fault) c.in-Err.ensures.tells

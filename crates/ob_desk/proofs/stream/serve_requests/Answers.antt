@@ -1,5 +1,7 @@
-use Rattle.std.proofs.Common.{None, arith}
+use Rattle.std.proofs.Common.{None, arith, refl}
 use Rattle.std.proofs.lemmas.Result.{err_from_is_err_and}
+use Rattle.ob_store.proofs.Faults.{tells_nothing}
+use Rattle.ob_desk.proofs.FaultLemmas.{ok-no-store, run-tells, same-err}
 use Rattle.ob_desk.proofs.RunLemmas.{run-closed, run-ended, run-fails, run-goes, run-refused, run-starts}
 use Rattle.ob_desk.proofs.StandLemmas.{kept-none, kept-then}
 use Rattle.ob_desk.proofs.stream.serve_requests.Goals as goal
@@ -10,6 +12,7 @@ requests-init g c = record {
   kept = kept-none g.S.Store c.args.keeper.now;
   some = omega arith;
   most = omega arith;
+  tells = tells_nothing g.S.Store c.args.keeper.now c.args.keeper.now ⊥ refl (λ e. e);
 }
 
 pub returns-in_err-serve_turn-clause-fails : goal.returns-in_err-serve_turn-clause-fails
@@ -42,4 +45,28 @@ requests-preserved g c =
       kept = kept-then g.S.Store c.args.keeper.now c.requests.keeper c.serve_turn.new.keeper None c.requests.invariant.kept c.in_ok-serve_turn.ensures.kept;
       some = run.some;
       most = omega (arith, c.requests.invariant.most);
+      tells = run-tells g.S.Store _ _ _ _ c.args.keeper.now c.requests.keeper c.serve_turn.new.keeper c.requests.allowed _ ⊥ (λ e. absurd e) c.requests.invariant.run c.requests.invariant.tells
+          c.in_ok-serve_turn.ensures.tells;
     }
+
+pub returns-in-Closed-clause-tells : goal.returns-in-Closed-clause-tells
+returns-in-Closed-clause-tells g c =
+    run-tells g.S.Store _ _ _ _ c.args.keeper.now c.requests.keeper c.serve_turn.new.keeper c.requests.allowed _ _ (λ e. absurd (ok-no-store _ e)) c.requests.invariant.run c.requests.invariant.tells
+    c.in_ok-serve_turn.ensures.tells
+
+pub returns-in-Refused-clause-tells : goal.returns-in-Refused-clause-tells
+returns-in-Refused-clause-tells g c =
+    run-tells g.S.Store _ _ _ _ c.args.keeper.now c.requests.keeper c.serve_turn.new.keeper c.requests.allowed _ _ (λ e. absurd (ok-no-store _ e)) c.requests.invariant.run c.requests.invariant.tells
+    c.in_ok-serve_turn.ensures.tells
+
+pub returns-then-ends-clause-tells : goal.returns-then-ends-clause-tells
+returns-then-ends-clause-tells g c =
+    run-tells g.S.Store _ _ _ _ c.args.keeper.now c.requests.keeper c.serve_turn.new.keeper c.requests.allowed _ _ (λ e. absurd (ok-no-store _ e)) c.requests.invariant.run c.requests.invariant.tells
+    c.in_ok-serve_turn.ensures.tells
+
+pub returns-in_err-serve_turn-clause-tells : goal.returns-in_err-serve_turn-clause-tells
+returns-in_err-serve_turn-clause-tells g c =
+    let p = err_from_is_err_and c.from_residual.result c.from_residual.ensures.1 in
+    rw (p.1, p.2)
+    (run-tells g.S.Store _ _ _ _ c.args.keeper.now c.requests.keeper c.serve_turn.new.keeper c.requests.allowed _ _ (same-err c.in_err-serve_turn.field-0.0) c.requests.invariant.run
+    c.requests.invariant.tells c.in_err-serve_turn.ensures.tells)

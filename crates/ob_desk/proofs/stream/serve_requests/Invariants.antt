@@ -1,7 +1,8 @@
 -- The requests so far were answered, and after none of them the stream ends.
 use Rattle.std.proofs.Common.{◌≤◌, None}
 use Rattle.ob_stream.specs.Watching.{watched_bytes}
-use Rattle.ob_requests.specs.Unread.{unread}
+use Rattle.ob_store.specs.Calls.{TellsFaults}
+use Rattle.ob_http_requests.specs.Unread.{unread}
 use Rattle.ob_desk.specs.Standing.{IsKept}
 use Rattle.ob_desk.proofs.RunLemmas.{SoFar}
 use Rattle.ob_desk.proofs.stream.serve_requests.Given as goal
@@ -13,6 +14,7 @@ invariant-requests g l = record {
   kept : IsKept g.S.Store l.fn.keeper l.keeper None;
   some : 1 ≤ l.allowed;
   most : l.allowed ≤ 1000;
+  tells : TellsFaults g.S.Store l.fn.keeper l.keeper ⊥;
 }
 
 abbrev pub decreases-requests : goal.decreases-requests

@@ -5,7 +5,8 @@ use Rattle.ob_stream.specs.Watching.{HasJustFailed, watched_bytes}
 use Rattle.ob_csv.specs.Rows.{rows_of}
 use Rattle.ob_import.specs.Imports.{after_header}
 use Rattle.ob_import.specs.Reports.{Runs}
-use Rattle.ob_import.proofs.Importing.{bound_by, broken_gathered, cause_by, imported_gathered, leaves_nothing, not_bookless, not_lost, not_none}
+use Rattle.ob_store.proofs.Faults.{tells_nothing}
+use Rattle.ob_import.proofs.Importing.{bound_by, broken_gathered, cause_by, imported_gathered, leaves_nothing, memory_not_store, no_book_fault, not_bookless, not_lost, not_none}
 use Rattle.ob_import.proofs.text.import_with_progress.Goals as goal
 
 pub returns : goal.returns
@@ -33,6 +34,7 @@ returns g c =
           broken_gathered g.S.Store new b (bytes c.args.reader.now) (bytes c.gather.new.reader) it.bytes.items it.whole done
           c.in-Ok.ensures.consumed runs.cause (runs.all clean b ties);
       bound = bound_by done (bytes c.args.reader.now) (bytes c.gather.new.reader) it.bytes.items it.whole 268435456 c.in-Ok.ensures.consumed c.in-Ok.ensures.whole runs.ended;
+      tells = c.import_rows-run.ensures.tells;
     }
 
 pub returns-in_default : goal.returns-in_default
@@ -48,6 +50,7 @@ returns-in_default g c =
       cause = λ is. tt;
       broken = λ clean b ties is e. cc;
       bound = tt;
+      tells = tells_nothing g.S.Store k k _ refl memory_not_store;
     }
 
 pub returns-then-is_none : goal.returns-then-is_none
@@ -63,4 +66,5 @@ returns-then-is_none g c =
       cause = λ is. absurd (not_none k.book is none);
       broken = λ clean b ties is. absurd (not_none k.book is none);
       bound = tt;
+      tells = tells_nothing g.S.Store k k _ refl (no_book_fault c.fault_without_book.result c.fault_without_book.ensures);
     }

@@ -1,6 +1,6 @@
 use Rattle.ob_lists.specs.Standing.{MayBe}
 use Rattle.ob_lists.proofs.Numbering.{acts_for_cause, numbers_act}
-use Rattle.ob_lists.proofs.Standings.{act_stands}
+use Rattle.ob_lists.proofs.Standings.{act_stands, of_one}
 use Rattle.ob_store.specs.Acting.{under}
 use Rattle.ob_lists.proofs.calls.act.Goals as goal
 
@@ -14,6 +14,11 @@ returns-clause-goes g c =
       stands = λ clean b before stands. act_stands g.S.Store old new b before a c.act.result (c.act.ensures.reopen.0) c.act.ensures.unopened
           (λ x ties some. c.act.ensures.acted clean x ties some) stands;
     }
+
+pub returns-clause-answers : goal.returns-clause-answers
+returns-clause-answers g c =
+    λ clean b told stands. of_one g.S.Store c.args.keeper.now c.act.new.self (MayBe b told) c.act.result c.act.ensures.reopen.0
+    (λ x ties some. c.act.ensures.acted clean x ties some) stands
 
 pub returns-clause-cause : goal.returns-clause-cause
 returns-clause-cause g c =

@@ -2,8 +2,8 @@ use Rattle.ob_lists.specs.Standing.{MayBe}
 use Rattle.ob_lists.proofs.Standings.{after_result, migrate_stands}
 use Rattle.ob_lists.proofs.calls.migrate.Goals as goal
 
-pub returns : goal.returns
-returns g c =
+pub returns-clause-goes : goal.returns-clause-goes
+returns-clause-goes g c =
     let old = c.args.keeper.now in
     let new = c.migrate.new.self in
     let m = c.migrate.ensures in

@@ -1,7 +1,7 @@
 use Rattle.std.proofs.Common.{sym, subst}
 use Rattle.ob_store.specs.Keepers.{IsClean, KeeperValue}
 use Rattle.ob_lists.specs.Standing.{MayBe, Stands}
-use Rattle.ob_lists.proofs.Planning.{plans_one}
+use Rattle.ob_lists.proofs.Planning.{plans_one, refuses_one}
 use Rattle.ob_lists.proofs.calls.plan.Goals as goal
 
 pub returns-clause-goes : goal.returns-clause-goes
@@ -15,3 +15,7 @@ returns-clause-goes g c =
 pub returns-clause-plans : goal.returns-clause-plans
 returns-clause-plans g c = λ b told stands.
     plans_one g.S.Store (MayBe b told) c.args.keeper.now (λ text. text.items) c.args.command.now c.plan.result c.plan.ensures.reopen.0 c.plan.ensures.refused c.plan.ensures.text stands
+
+pub returns-clause-refuses : goal.returns-clause-refuses
+returns-clause-refuses g c = λ b told stands why is.
+    refuses_one g.S.Store (MayBe b told) c.args.keeper.now (λ text. text.items) c.args.command.now c.plan.result c.plan.ensures.reopen.0 c.plan.ensures.refused stands why is

@@ -8,7 +8,7 @@ returns g c =
     let next = c.restart-next in
     let goes = c.restart_law.ensures c.migrate.new.keeper next.result next.ensures in
     let migrated = c.load-found.ensures.goes.clean clean in
-    let opened = c.migrate-2.ensures.clean migrated in
-    let left = c.migrate.ensures.stands (goes.clean opened) b told stands in
-    let was = c.migrate-2.ensures.stands migrated b told (goes.stands opened b told left) in
+    let opened = c.migrate-2.ensures.goes.clean migrated in
+    let left = c.migrate.ensures.goes.stands (goes.clean opened) b told stands in
+    let was = c.migrate-2.ensures.goes.stands migrated b told (goes.stands opened b told left) in
     finds g.R.Store (MayBe b told) c.migrate-2.new.keeper c.load-found.new.keeper c.load-found.result (c.load-found.ensures.loads clean b told was)

@@ -5,7 +5,7 @@ use Rattle.ob_state.specs.Next.{next}
 use Rattle.ob_state.specs.Resolved.{next_by}
 use Rattle.ob_book.specs.Acts.{Referenced}
 use Rattle.ob_book.specs.Books.{ArePosted}
-use Rattle.ob_commit.specs.declared.act.Act.{Act}
+use Rattle.ob_sql_write.specs.declared.act.Act.{Act}
 use Rattle.ob_record.specs.Leading.{LeadsParts}
 use Rattle.ob_record.proofs.Acted.{AreRowsOf, can_write, records}
 use Rattle.ob_record.proofs.Leads.{leads}

@@ -1,9 +1,7 @@
-use Rattle.std.proofs.Common.{◌≡◌, ◌+◌, ◌*◌, ◌<◌, ◌≤◌, ◌^◌, ℕ, None, List, get_or, length, take, take_all, ap, refl, sym, subst, ◌∙◌, arith, rules}
-use Rattle.std.specs.List.{All, sum_by}
+use Rattle.std.proofs.Common.{◌≡◌, ◌+◌, ◌*◌, ◌^◌, None, List, get_or, take, take_all, ap, refl, sym, ◌∙◌, arith}
+use Rattle.std.specs.List.{sum_by}
 use Rattle.std.proofs.lemmas.List.Sums.{sum_by_more}
 use Rattle.ob_cust.specs.declared.SectionBlock.{SectionBlock}
-use Rattle.ob_rows.specs.Outages.{IsOutage}
-use Rattle.ob_sweep.specs.declared.Run.{Run}
 use Rattle.ob_state.specs.State.{BookState}
 use Rattle.ob_selections.specs.Sums.{AreMore}
 use Rattle.ob_selections.specs.Tallies.{tally_by_runs}

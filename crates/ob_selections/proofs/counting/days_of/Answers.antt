@@ -1,5 +1,5 @@
-use Rattle.std.proofs.Common.{◌≡◌, ◌<◌, ◌≤◌, ◌-◌, ◌^◌, ℕ, ◌∙◌, ap, sym, subst₂, arith}
-use Rattle.ob_time.specs.Calendar.{Calendar, bound_of, day_count}
+use Rattle.std.proofs.Common.{◌≡◌, ◌∙◌, ap, arith}
+use Rattle.ob_time.specs.Calendar.{Calendar, bound_of}
 use Rattle.ob_state.specs.State.{BookState}
 use Rattle.ob_selections.proofs.Bounds.{bound_at_most, days_short}
 use Rattle.ob_selections.proofs.counting.days_of.Goals as goal

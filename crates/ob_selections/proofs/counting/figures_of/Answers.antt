@@ -1,7 +1,4 @@
-use Rattle.std.proofs.Common.{◌≡◌, ◌+◌, ◌*◌, ◌<◌, ◌≤◌, ◌^◌, ℕ, List, get_or, length, refl, ap, sym, ◌∙◌, arith, rules}
-use Rattle.std.specs.List.{All}
-use Rattle.ob_base.specs.declared.interval.Interval.{Interval}
-use Rattle.ob_cust.specs.declared.Customer.{Customer}
+use Rattle.std.proofs.Common.{◌≡◌, ◌+◌, ◌*◌, ◌^◌, get_or, length, refl, ap, ◌∙◌, arith, rules}
 use Rattle.ob_net.specs.Network.{Network}
 use Rattle.ob_sweep.proofs.Related.{section_is_node}
 use Rattle.ob_index.specs.Interruptions.{duration}

@@ -1,4 +1,4 @@
-use Rattle.std.proofs.Common.{List, ℕ, [], ◌∷◌, codes}
+use Rattle.std.proofs.Common.{[], ◌∷◌}
 use Rattle.std.specs.List.{flat_map}
 use Rattle.ob_selections.specs.Formulas.{listed}
 use Rattle.ob_selections.specs.Lines.{index_columns}

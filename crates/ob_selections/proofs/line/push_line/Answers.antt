@@ -1,4 +1,4 @@
-use Rattle.std.proofs.Common.{List, ℕ, [], ◌∷◌}
+use Rattle.std.proofs.Common.{[], ◌∷◌}
 use Rattle.std.specs.List.{flat_map}
 use Rattle.ob_selections.specs.Formulas.{listed}
 use Rattle.ob_selections.specs.Lines.{count_fields, index_fields, key_fields, service_fields}

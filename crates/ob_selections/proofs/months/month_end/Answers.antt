@@ -1,4 +1,4 @@
-use Rattle.std.proofs.Common.{◌≡◌, ◌+◌, ◌-◌, ◌<◌, ◌≤◌, ℕ, Bool, true, false, ap, sym, ◌∙◌, arith}
+use Rattle.std.proofs.Common.{◌≡◌, ◌+◌, ◌-◌, ℕ, Bool, false, ap, sym, ◌∙◌, arith}
 use Rattle.ob_time.specs.Calendar.{Calendar, day_count}
 use Rattle.ob_state.specs.State.{BookState}
 use Rattle.ob_rows.proofs.Outages.{reaches}

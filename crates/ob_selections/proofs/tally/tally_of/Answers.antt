@@ -1,4 +1,4 @@
-use Rattle.std.proofs.Common.{◌≡◌, ◌+◌, ◌-◌, ◌<◌, ◌≤◌, ◌^◌, ℕ, List, length, take, take_all, not, sym, ap, subst, ◌∙◌, arith, refl, rules}
+use Rattle.std.proofs.Common.{◌≡◌, ◌+◌, List, take, take_all, not, sym, ap, subst, ◌∙◌, arith, refl}
 use Rattle.std.specs.List.{count_by, filter, sum_by}
 use Rattle.ob_base.specs.Seconds.{seconds}
 use Rattle.ob_base.specs.declared.interval.Interval.{Interval}

@@ -1,4 +1,4 @@
-use Rattle.std.proofs.Common.{◌≡◌, ◌∙◌, ◌+◌, ◌++◌, List, ℕ, ap, sym, arith}
+use Rattle.std.proofs.Common.{◌≡◌, ◌∙◌, ◌++◌, List, ℕ, ap, arith}
 use Rattle.std.specs.List.{filter_map, flat_map, range_with_len}
 use Rattle.ob_state.specs.State.{BookState}
 use Rattle.ob_selections.specs.IndexText.{key_lines, place_lines}

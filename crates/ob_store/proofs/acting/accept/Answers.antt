@@ -1,4 +1,5 @@
 use Rattle.std.proofs.Common.{◌≡◌, ◌+◌, None, Ok, Err, sym, ap, ap₂, subst, ◌∙◌}
+use Rattle.sqlite.specs.Held.{state}
 use Rattle.ob_post.specs.MoveLaws.{AreSmall}
 use Rattle.ob_state.specs.Amounts.{amount, moves}
 use Rattle.ob_state.specs.Next.{next}
@@ -7,6 +8,7 @@ use Rattle.ob_record.specs.Leading.{Records}
 use Rattle.ob_record.specs.Naming.{IsReferenced}
 use Rattle.ob_store.specs.Acting.{under}
 use Rattle.ob_record.specs.Tables.{tables_of}
+use Rattle.ob_store.proofs.Faults.{any_still, as_any}
 use Rattle.ob_store.proofs.Accepting.{answered, book_is, caused, decided, done, failed, none_told}
 use Rattle.ob_store.proofs.acting.accept.Goals as goal
 
@@ -92,3 +94,12 @@ returns-in-Err-commit_act-clause-numbered g c b keeps same numbers =
     let at : c.decide.new.self.state ≡ b.book = c.decide.ensures.state ∙ same in
     let records : Records b a p c.act_of-act.result = rw (c.bytes.ensures.value, c.in-Ok.ensures.command) at (c.act_of-act.ensures.records b keeps.reached (sym at) p c.postings.ensures.posted) in
     c.commit_act.ensures.numbered (tables_of b) keeps.kept records.needs numbers
+
+pub returns-in-Err-clause-survives : goal.returns-in-Err-clause-survives
+returns-in-Err-clause-survives g c = any_still (state g.S.Store c.args.conn.now)
+
+pub returns-in-Ok-commit_act-clause-survives : goal.returns-in-Ok-commit_act-clause-survives
+returns-in-Ok-commit_act-clause-survives g c = as_any (state g.S.Store c.args.conn.now) (state g.S.Store c.commit_act.new.conn) _ c.commit_act.ensures.survives
+
+pub returns-in-Err-commit_act-clause-survives : goal.returns-in-Err-commit_act-clause-survives
+returns-in-Err-commit_act-clause-survives g c = as_any (state g.S.Store c.args.conn.now) (state g.S.Store c.commit_act.new.conn) _ c.commit_act.ensures.survives

@@ -1,4 +1,5 @@
 use Rattle.std.proofs.Common.{◌≢◌, inl, inr, sym, ◌∙◌, arith, refl}
+use Rattle.std.specs.Prelude.{⊤}
 use Rattle.sqlite.specs.Held.{state}
 use Rattle.sqlite.specs.State.{HasCleanDisk}
 use Rattle.ob_command.specs.Commands.{body_text}
@@ -7,8 +8,9 @@ use Rattle.ob_store.specs.Acting.{under}
 use Rattle.ob_store.specs.Keeping.{KeepsBook}
 use Rattle.ob_store.proofs.Known.{is_new, is_known, of_one}
 use Rattle.ob_store.proofs.Answering.{reached_act, stays, again, cause_since, conflict, fault_acts, again_acts, each_ok, read_cause}
-use Rattle.ob_commit.proofs.Commits.{numbers_survive}
+use Rattle.ob_sql_write.proofs.Commits.{numbers_survive}
 use Rattle.ob_store.proofs.Failing.{no_store}
+use Rattle.ob_store.proofs.Faults.{any_still, any_then, as_any}
 use Rattle.ob_store.proofs.acting.act_on.Goals as goal
 
 pub returns-in-Ok-New-clause-acts : goal.returns-in-Ok-New-clause-acts
@@ -100,3 +102,20 @@ returns-in-Ok-Other-clause-numbered g c b keeps same numbers = numbers_survive (
 
 pub returns-clause-numbered : goal.returns-clause-numbered
 returns-clause-numbered g c b keeps same numbers = numbers_survive (state g.S.Store c.args.conn.now) (state g.S.Store c.look_up.new.conn) c.look_up.ensures.survives numbers
+
+pub returns-in-Err-clause-survives : goal.returns-in-Err-clause-survives
+returns-in-Err-clause-survives g c = any_still (state g.S.Store c.args.conn.now)
+
+pub returns-in-Ok-New-clause-survives : goal.returns-in-Ok-New-clause-survives
+returns-in-Ok-New-clause-survives g c =
+    any_then (state g.S.Store c.args.conn.now) (state g.S.Store c.look_up.new.conn) (state g.S.Store c.accept.new.conn) (λ _. ⊥) (λ _. ⊤) c.look_up.ensures.survives c.accept.ensures.survives
+
+pub returns-in-Ok-Same-clause-survives : goal.returns-in-Ok-Same-clause-survives
+returns-in-Ok-Same-clause-survives g c =
+    any_then (state g.S.Store c.args.conn.now) (state g.S.Store c.look_up.new.conn) (state g.S.Store c.stored_reply.new.conn) (λ _. ⊥) (λ _. ⊥) c.look_up.ensures.survives c.stored_reply.ensures.survives
+
+pub returns-in-Ok-Other-clause-survives : goal.returns-in-Ok-Other-clause-survives
+returns-in-Ok-Other-clause-survives g c = as_any (state g.S.Store c.args.conn.now) (state g.S.Store c.look_up.new.conn) (λ _. ⊥) c.look_up.ensures.survives
+
+pub returns-clause-survives : goal.returns-clause-survives
+returns-clause-survives g c = as_any (state g.S.Store c.args.conn.now) (state g.S.Store c.look_up.new.conn) (λ _. ⊥) c.look_up.ensures.survives

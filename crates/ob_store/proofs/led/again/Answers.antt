@@ -1,5 +1,5 @@
 use Rattle.std.proofs.Common.{Ok, inl, ap, ◌∙◌}
-use Rattle.ob_tables.specs.declared.version.Version.TheVariants.{Two}
+use Rattle.ob_sql_rows.specs.declared.version.Version.TheVariants.{Two}
 use Rattle.ob_store.proofs.Leading.{led_by, stuck}
 use Rattle.ob_store.proofs.led.again.Goals as goal
 

@@ -1,8 +1,8 @@
 use Rattle.std.proofs.Common.{List, is_some, true≢false, sym, ap, subst, ◌∙◌}
-use Rattle.ob_compare.specs.declared.filed.Filed.{Filed}
-use Rattle.ob_compare.specs.Listing.{filed_of}
-use Rattle.ob_compare.specs.Distinct.{AreDistinct}
-use Rattle.ob_tables.specs.declared.version.Version.TheVariants.{Two}
+use Rattle.ob_sql_read.specs.declared.filed.Filed.{Filed}
+use Rattle.ob_sql_read.specs.Listing.{filed_of}
+use Rattle.ob_sql_read.specs.Distinct.{AreDistinct}
+use Rattle.ob_sql_rows.specs.declared.version.Version.TheVariants.{Two}
 use Rattle.ob_store.specs.declared.led.Led.{Led}
 use Rattle.ob_store.specs.Finding.{HasNoBook, IsNamed}
 use Rattle.ob_store.specs.Leading.{IsLed}

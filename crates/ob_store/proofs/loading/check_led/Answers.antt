@@ -1,9 +1,9 @@
 use Rattle.std.proofs.Common.{◌≢◌, Ok, Err, inl, inr, refl, sym, subst, ◌∙◌}
 use Rattle.ob_base.specs.declared.stop.Stop.{Stop}
 use Rattle.std.specs.Prelude.{⊤}
-use Rattle.ob_tables.specs.Steps.{IsStoreFault}
-use Rattle.ob_compare.specs.Reading.{bad_book}
-use Rattle.ob_tables.specs.declared.version.Version.TheVariants.{Two}
+use Rattle.ob_sql_rows.specs.Steps.{IsStoreFault}
+use Rattle.ob_sql_read.specs.Reading.{bad_book}
+use Rattle.ob_sql_rows.specs.declared.version.Version.TheVariants.{Two}
 use Rattle.ob_store.specs.declared.led.Led.{Led}
 use Rattle.ob_store.specs.Differing.{IsFirstOff, NoneSo}
 use Rattle.ob_store.specs.Finding.{Finds}

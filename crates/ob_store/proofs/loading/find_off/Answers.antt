@@ -1,4 +1,4 @@
-use Rattle.ob_tables.specs.declared.version.Version.TheVariants.{Two}
+use Rattle.ob_sql_rows.specs.declared.version.Version.TheVariants.{Two}
 use Rattle.ob_store.specs.declared.led.Led.{Led}
 use Rattle.ob_store.specs.Finding.{HasNoBook}
 use Rattle.ob_store.specs.Leading.{IsLed}

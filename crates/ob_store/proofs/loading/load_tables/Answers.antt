@@ -1,6 +1,6 @@
 use Rattle.std.specs.Prelude.{⊤}
 use Rattle.ob_book.specs.declared.book.Book.{Book}
-use Rattle.ob_tables.specs.declared.version.Version.TheVariants.{Two}
+use Rattle.ob_sql_rows.specs.declared.version.Version.TheVariants.{Two}
 use Rattle.ob_store.specs.declared.led.Led.{Led}
 use Rattle.ob_store.specs.Finding.{HasNoBook}
 use Rattle.ob_store.specs.Leading.{IsLed}

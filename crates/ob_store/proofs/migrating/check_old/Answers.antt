@@ -1,8 +1,8 @@
 use Rattle.std.proofs.Common.{◌≢◌, Ok, Err, inl, inr, sym, ◌∙◌}
 use Rattle.ob_base.specs.declared.stop.Stop.{Stop}
-use Rattle.ob_tables.specs.Steps.{IsStoreFault}
-use Rattle.ob_tables.specs.declared.version.Version.TheVariants.{One}
-use Rattle.ob_compare.specs.Reading.{bad_book}
+use Rattle.ob_sql_rows.specs.Steps.{IsStoreFault}
+use Rattle.ob_sql_rows.specs.declared.version.Version.TheVariants.{One}
+use Rattle.ob_sql_read.specs.Reading.{bad_book}
 use Rattle.ob_store.specs.Differing.{NoneSo}
 use Rattle.ob_store.specs.Finding.{Finds}
 use Rattle.ob_store.proofs.Found.{Apart}

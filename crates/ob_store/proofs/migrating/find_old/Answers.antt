@@ -1,5 +1,5 @@
 use Rattle.std.proofs.Common.{true, Ok, refl}
-use Rattle.ob_tables.specs.declared.version.Version.TheVariants.{One}
+use Rattle.ob_sql_rows.specs.declared.version.Version.TheVariants.{One}
 use Rattle.ob_store.specs.declared.led.Led.{Led}
 use Rattle.ob_store.specs.Finding.{HasNoBookIn, IsNamed}
 use Rattle.ob_store.specs.Leading.{IsLedIn}

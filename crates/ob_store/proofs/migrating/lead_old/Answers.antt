@@ -1,7 +1,7 @@
 use Rattle.std.proofs.Common.{List, is_some, true≢false, sym, ap, subst, ◌∙◌}
-use Rattle.ob_compare.specs.declared.filed.Filed.{Filed}
-use Rattle.ob_compare.specs.Listing.{filed_of}
-use Rattle.ob_compare.specs.Distinct.{AreDistinct}
+use Rattle.ob_sql_read.specs.declared.filed.Filed.{Filed}
+use Rattle.ob_sql_read.specs.Listing.{filed_of}
+use Rattle.ob_sql_read.specs.Distinct.{AreDistinct}
 use Rattle.ob_store.specs.declared.led.Led.{Led}
 use Rattle.ob_store.proofs.OldBooks.{lead_at, lead_fails, lead_no_memory, lead_off, lead_twice, lead_uncounted}
 use Rattle.ob_store.proofs.migrating.lead_old.Goals as goal

@@ -1,7 +1,7 @@
 use Rattle.std.proofs.Common.{Ok, Err, true, true≢false, arith}
 use Rattle.sqlite.specs.Held.{state}
 use Rattle.sqlite.specs.State.{HasCleanDisk}
-use Rattle.ob_tables.specs.declared.version.Version.TheVariants.{One}
+use Rattle.ob_sql_rows.specs.declared.version.Version.TheVariants.{One}
 use Rattle.ob_store.proofs.GoingOn.{now_told, on_err, on_more, on_ok}
 use Rattle.ob_store.proofs.Upgrading.{failed, unfound, untold, was_new, was_old}
 use Rattle.ob_store.proofs.migrating.migrate_on.Goals as goal

@@ -1,4 +1,4 @@
-use Rattle.ob_tables.specs.declared.version.Version.TheVariants.{One}
+use Rattle.ob_sql_rows.specs.declared.version.Version.TheVariants.{One}
 use Rattle.ob_store.proofs.Laws.{laws_old}
 use Rattle.ob_store.proofs.migrating.old_books_law.Goals as goal
 

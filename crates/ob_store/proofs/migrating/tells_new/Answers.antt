@@ -1,5 +1,5 @@
 use Rattle.std.proofs.Common.{Ok, Err}
-use Rattle.ob_tables.specs.declared.version.Version.TheVariants.{One}
+use Rattle.ob_sql_rows.specs.declared.version.Version.TheVariants.{One}
 use Rattle.ob_store.proofs.Asking.{asked_err, asked_more, open_keeps}
 use Rattle.ob_store.proofs.OldTelling.{looked_err, looked_shape, looked_then, looked_told}
 use Rattle.ob_store.proofs.Reading.{if_ok}

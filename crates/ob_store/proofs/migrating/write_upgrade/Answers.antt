@@ -1,8 +1,8 @@
 use Rattle.sqlite.specs.Held.{state}
-use Rattle.ob_tables.specs.declared.version.Version.TheVariants.{One}
-use Rattle.ob_commit.specs.Keeps.{KeepsIn}
-use Rattle.ob_commit.specs.Upgrade.{CanUpgrade, LeavesUpgraded, with_upgrade}
-use Rattle.ob_parts.specs.OldTables.{old_tables_of}
+use Rattle.ob_sql_rows.specs.declared.version.Version.TheVariants.{One}
+use Rattle.ob_sql_write.specs.Keeps.{KeepsIn}
+use Rattle.ob_sql_write.specs.Upgrade.{CanUpgrade, LeavesUpgraded, with_upgrade}
+use Rattle.ob_sql_check.specs.OldTables.{old_tables_of}
 use Rattle.ob_store.specs.Upgrading.{LeavesWritten}
 use Rattle.ob_store.proofs.Upgrading.{keeps_old, not_caused, survives_as, upgraded_or, written}
 use Rattle.ob_store.proofs.migrating.write_upgrade.Goals as goal

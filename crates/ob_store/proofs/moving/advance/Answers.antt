@@ -1,10 +1,10 @@
 use Rattle.std.proofs.Common.{[], inl}
 use Rattle.sqlite.specs.Held.{state}
-use Rattle.ob_tables.specs.declared.version.Version.TheVariants.{Two}
-use Rattle.ob_tables.proofs.Failing.{not_answered, stop_cause}
-use Rattle.ob_compare.specs.Moves.{moved_listing}
-use Rattle.ob_compare.proofs.Failing.{answered_over}
-use Rattle.ob_compare.proofs.Rowing.{moved_is}
+use Rattle.ob_sql_rows.specs.declared.version.Version.TheVariants.{Two}
+use Rattle.ob_sql_rows.proofs.Failing.{not_answered, stop_cause}
+use Rattle.ob_sql_read.specs.Moves.{moved_listing}
+use Rattle.ob_sql_read.proofs.Failing.{answered_over}
+use Rattle.ob_sql_read.proofs.Rowing.{moved_is}
 use Rattle.ob_store.proofs.Handing.{keeps_after, spared_failing}
 use Rattle.ob_store.proofs.moving.advance.Goals as goal
 

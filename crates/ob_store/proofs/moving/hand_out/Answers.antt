@@ -2,14 +2,14 @@ use Rattle.std.proofs.Common.{◌≡◌, ℕ, [], Err, sym, subst, arith, rules}
 use Rattle.sqlite.specs.State.{HasCleanDisk, Survives}
 use Rattle.sqlite.specs.Held.{state}
 use Rattle.ob_record.specs.Tables.{tables_of}
-use Rattle.ob_commit.specs.Keeps.{Keeps}
-use Rattle.ob_compare.specs.Moves.{moved_listing}
-use Rattle.ob_compare.proofs.Listing.{begins, still_then}
-use Rattle.ob_compare.proofs.Rowing.{moved_is}
-use Rattle.ob_tables.specs.declared.version.Version.TheVariants.{Two}
-use Rattle.ob_tables.proofs.Failing.{not_run, stop_cause}
-use Rattle.ob_commit.proofs.Failing.{keeper_cause}
-use Rattle.ob_compare.proofs.Failing.{answered_over, asked_cause}
+use Rattle.ob_sql_write.specs.Keeps.{Keeps}
+use Rattle.ob_sql_read.specs.Moves.{moved_listing}
+use Rattle.ob_sql_read.proofs.Listing.{begins, still_then}
+use Rattle.ob_sql_read.proofs.Rowing.{moved_is}
+use Rattle.ob_sql_rows.specs.declared.version.Version.TheVariants.{Two}
+use Rattle.ob_sql_rows.proofs.Failing.{not_run, stop_cause}
+use Rattle.ob_sql_write.proofs.Failing.{keeper_cause}
+use Rattle.ob_sql_read.proofs.Failing.{answered_over, asked_cause}
 use Rattle.ob_store.specs.MovingOut.{HasHaltCause}
 use Rattle.ob_store.proofs.Handing.{begun_keeps, halt_after, keeps_after, query_keeps, query_survives, spared_unasked, spared_unread}
 use Rattle.ob_store.proofs.moving.hand_out.Goals as goal

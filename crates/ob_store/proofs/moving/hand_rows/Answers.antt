@@ -4,9 +4,9 @@ use Rattle.sqlite.specs.Effect.{Database}
 use Rattle.sqlite.specs.State.{HasCleanDisk}
 use Rattle.sqlite.specs.Held.{state}
 use Rattle.sqlite.proofs.Callers.{unchanged_then}
-use Rattle.ob_tables.proofs.Failing.{failed_after}
+use Rattle.ob_sql_rows.proofs.Failing.{failed_after}
 use Rattle.ob_store.specs.Keeping.{KeepsBook}
-use Rattle.ob_compare.proofs.Listing.{still_then}
+use Rattle.ob_sql_read.proofs.Listing.{still_then}
 use Rattle.ob_record.specs.Tables.{tables_of}
 use Rattle.ob_store.specs.MovingOut.{Numbered, ComesNext, TakesAll, all_moves, row_of_move}
 use Rattle.ob_store.proofs.Handing.{front_and, front_of, given_more, takes_more, whole}

@@ -2,10 +2,10 @@ use Rattle.std.proofs.Common.{◌≡◌, List, [], length, map, IsTrue, false}
 use Rattle.sqlite.specs.State.{HasCleanDisk, IsUnchanged, Survives}
 use Rattle.sqlite.specs.Held.{state}
 use Rattle.sqlite.specs.Given.{HasGiven}
-use Rattle.ob_tables.specs.Schema.{book_schema}
-use Rattle.ob_tables.specs.Rows.{Tables}
-use Rattle.ob_commit.specs.Keeps.{Keeps}
-use Rattle.ob_compare.specs.Moves.{moved_listing}
+use Rattle.ob_sql_rows.specs.Schema.{book_schema}
+use Rattle.ob_sql_rows.specs.Rows.{Tables}
+use Rattle.ob_sql_write.specs.Keeps.{Keeps}
+use Rattle.ob_sql_read.specs.Moves.{moved_listing}
 use Rattle.ob_store.specs.MovingOut.{Numbered, TakesAll, row_of_move}
 use Rattle.ob_store.proofs.moving.hand_rows.Given as goal
 

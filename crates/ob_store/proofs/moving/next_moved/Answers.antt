@@ -2,14 +2,14 @@ use Rattle.std.proofs.Common.{◌≡◌, ◌++◌, [], ◌∷◌, None, Some, is
 use Rattle.sqlite.specs.Held.{state}
 use Rattle.sqlite.specs.State.{HasCleanDisk}
 use Rattle.ob_record.specs.Tables.{tables_of}
-use Rattle.ob_compare.proofs.Failing.{cause_of_error}
+use Rattle.ob_sql_read.proofs.Failing.{cause_of_error}
 use Rattle.ob_store.specs.MovingOut.{row_of_move}
 use Rattle.ob_store.proofs.Handing.{row_of}
 use Rattle.sqlite.specs.Given.{GivesOn, HasGiven, row_if}
-use Rattle.ob_compare.specs.Moves.{moved_listing}
-use Rattle.ob_compare.proofs.Listing.{whole_list}
-use Rattle.ob_compare.proofs.Rowing.{moved_is}
-use Rattle.ob_tables.specs.declared.version.Version.TheVariants.{Two}
+use Rattle.ob_sql_read.specs.Moves.{moved_listing}
+use Rattle.ob_sql_read.proofs.Listing.{whole_list}
+use Rattle.ob_sql_read.proofs.Rowing.{moved_is}
+use Rattle.ob_sql_rows.specs.declared.version.Version.TheVariants.{Two}
 use Rattle.ob_store.proofs.moving.next_moved.Goals as goal
 
 pub returns-in-Some-read_moved-clause-next : goal.returns-in-Some-read_moved-clause-next

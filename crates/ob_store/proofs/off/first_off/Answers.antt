@@ -1,6 +1,6 @@
 use Rattle.std.proofs.Common.{Option, Ok, subst}
-use Rattle.ob_tables.specs.declared.table.Table.{Table}
-use Rattle.ob_tables.specs.declared.version.Version.TheVariants.{Two}
+use Rattle.ob_sql_rows.specs.declared.table.Table.{Table}
+use Rattle.ob_sql_rows.specs.declared.version.Version.TheVariants.{Two}
 use Rattle.ob_store.specs.Differing.{IsFirstOffOf, NoneSo}
 use Rattle.ob_store.specs.Finding.{Finds}
 use Rattle.ob_store.proofs.Differing.{before_commands, before_failed, commands_off, moved_off, posted}

@@ -1,7 +1,7 @@
 use Rattle.std.proofs.Common.{◌≡◌, ◌≢◌, ℕ, Option, Ok, get_or, subst, arith}
-use Rattle.ob_tables.specs.declared.table.Table.{Table}
-use Rattle.ob_tables.specs.declared.table.Table.TheVariants.{Meta}
-use Rattle.ob_tables.specs.declared.version.Version.TheVariants.{Two}
+use Rattle.ob_sql_rows.specs.declared.table.Table.{Table}
+use Rattle.ob_sql_rows.specs.declared.table.Table.TheVariants.{Meta}
+use Rattle.ob_sql_rows.specs.declared.version.Version.TheVariants.{Two}
 use Rattle.ob_store.specs.Differing.{IsOff, NoneSo}
 use Rattle.ob_store.specs.Finding.{Finds}
 use Rattle.ob_store.proofs.Differing.{Begun, all_right, first_parts, one_failed, one_right, one_wrong, part_at}

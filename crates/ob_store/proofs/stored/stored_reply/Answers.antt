@@ -5,8 +5,8 @@ use Rattle.ob_time.specs.Calendar.{day_count}
 use Rattle.ob_post.specs.MoveLaws.{change_from}
 use Rattle.ob_state.specs.Amounts.{amount, moves}
 use Rattle.ob_book.specs.Acts.{book_at}
-use Rattle.ob_tables.specs.Rows.{is_key}
-use Rattle.ob_tables.specs.declared.table.Table.TheVariants as tables
+use Rattle.ob_sql_rows.specs.Rows.{is_key}
+use Rattle.ob_sql_rows.specs.declared.table.Table.TheVariants as tables
 use Rattle.ob_record.specs.Tables.{rows_of_moves, tables_of}
 use Rattle.ob_store.proofs.Replying.{moves_of_reply, period_at, small_keys}
 use Rattle.ob_store.proofs.stored.stored_reply.Goals as goal

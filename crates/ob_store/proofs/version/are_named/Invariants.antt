@@ -1,5 +1,5 @@
 use Rattle.std.proofs.Common.{◌≡◌, map, take}
-use Rattle.ob_tables.specs.Rows.{table_name}
+use Rattle.ob_sql_rows.specs.Rows.{table_name}
 use Rattle.ob_store.proofs.version.are_named.Given as goal
 
 -- the names so far are these

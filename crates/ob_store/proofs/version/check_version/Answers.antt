@@ -1,5 +1,5 @@
 use Rattle.std.proofs.Common.{Ok}
-use Rattle.ob_tables.specs.declared.version.Version.TheVariants.{Two}
+use Rattle.ob_sql_rows.specs.declared.version.Version.TheVariants.{Two}
 use Rattle.ob_store.proofs.Asking.{asked_more, asked_once, told_none, told_then}
 use Rattle.ob_store.proofs.OldTelling.{looked_shape}
 use Rattle.ob_store.proofs.Reading.{on_ok}

@@ -2,7 +2,7 @@ use Rattle.std.proofs.Common.{rules, ◌≡◌, [], map, length, IsTrue, ap, sub
 use Rattle.std.specs.Prelude.{◌↔◌}
 use Rattle.sqlite.specs.Schema.{Schema}
 use Rattle.sqlite.specs.Table.{Table as Stored}
-use Rattle.ob_tables.specs.Rows.{table_name}
+use Rattle.ob_sql_rows.specs.Rows.{table_name}
 use Rattle.ob_store.proofs.version.has_shape.Goals as goal
 
 pub returns : goal.returns

@@ -1,8 +1,8 @@
 use Rattle.std.proofs.Common.{[], inl, refl, arith}
 use Rattle.sqlite.specs.Held.{state}
 use Rattle.sqlite.specs.Listing.{understood}
-use Rattle.ob_compare.proofs.Asking.{no_outline}
-use Rattle.ob_compare.proofs.Headings.{meta_listing, no_meaning}
+use Rattle.ob_sql_read.proofs.Asking.{no_outline}
+use Rattle.ob_sql_read.proofs.Headings.{meta_listing, no_meaning}
 use Rattle.ob_store.proofs.Asking.{looked_empty, looked_failed, looked_foreign, looked_same, looked_still}
 use Rattle.ob_store.proofs.version.look_at.Goals as goal
 

@@ -1,4 +1,4 @@
-use Rattle.ob_tables.specs.declared.version.Version.TheVariants.{Two}
+use Rattle.ob_sql_rows.specs.declared.version.Version.TheVariants.{Two}
 use Rattle.ob_store.proofs.Telling.{current, lacks, outdated, unversioned}
 use Rattle.ob_store.proofs.version.tell_version.Goals as goal
 

@@ -3,7 +3,7 @@ use Rattle.std.specs.List.{list_any}
 use Rattle.ob_base.specs.Life.{turns_at}
 use Rattle.ob_net.specs.Network.{Network, as_of}
 use Rattle.ob_net.specs.declared.net.Device.{Device}
-use Rattle.ob_sweep.specs.Steps.{all_runs_until, push_all, supplied_nodes}
+use Rattle.ob_sweep.specs.Steps.{IsSupplyAt, all_runs_until, push_all, supplied_nodes}
 use Rattle.ob_sweep.proofs.Passing.{NoneTurns, counts_on, counts_within, kept_until, passed, waited}
 use Rattle.ob_sweep.proofs.Sweeps.{length-supplied}
 use Rattle.ob_sweep.proofs.sweep.pass_lives.Goals as goal
@@ -33,12 +33,12 @@ returns-in_err-after-clause-searches c =
 pub record_all-requires-clause-before : goal.record_all-requires-clause-before
 record_all-requires-clause-before c =
     let net : Network = c.args.net.now.network in
-    ap length (c.deref.ensures.value ∙ c.loop-alloc.invariant.was) ∙ length-supplied net (as_of net.devices c.loop-alloc.at c.args.entered.now) ∙ sym c.nodes-nodes.ensures.count
+    ap length (c.live.ensures ∙ c.loop-alloc.invariant.was.live) ∙ length-supplied net (as_of net.devices c.loop-alloc.at c.args.entered.now) ∙ sym c.nodes-nodes.ensures.count
 
 pub record_all-requires-clause-after : goal.record_all-requires-clause-after
 record_all-requires-clause-after c =
     let now : Network = c.loop-alloc.net.network in
-    ap length (c.deref-in-loop-alloc.ensures.value ∙ c.in_ok-after.ensures.supplied)
+    ap length (c.live-in-loop-alloc.ensures ∙ c.in_ok-after.ensures.supplied.live)
     ∙ length-supplied now (as_of now.devices c.next_turn-next.result c.args.entered.now)
     ∙ ap (λ (n : Network). length n.nodes) c.loop-alloc.invariant.unchanged ∙ sym c.nodes-nodes.ensures.count
 
@@ -61,7 +61,7 @@ loop-alloc-preserved c =
     let some : IsTrue (list_any (λ (d : Device). turns_at d.life next) net.devices) = rw c.loop-alloc.invariant.unchanged at c.next_turn-next.ensures.turns (omega (arith, up)) in
     let none : NoneTurns net at next = rw c.loop-alloc.invariant.unchanged at c.next_turn-next.ensures.alike in
     let later : at < next = c.next_turn-next.ensures.later in
-    let now : c.in_ok-after.after.items ≡ supplied_nodes net (as_of net.devices next c.args.entered.now) = rw c.loop-alloc.invariant.unchanged at c.in_ok-after.ensures.supplied in
+    let now : IsSupplyAt net (as_of net.devices next c.args.entered.now) c.in_ok-after.after = rw c.loop-alloc.invariant.unchanged at c.in_ok-after.ensures.supplied in
     record {
       on = omega (arith, c.loop-alloc.invariant.on, later);
       up = up;
@@ -73,8 +73,8 @@ loop-alloc-preserved c =
       was = now;
       runs = λ first set l early is were.
           c.in_ok-record_all.ensures
-          ∙ ap (λ q. push_all 0 q c.deref-in-loop-alloc.result.now next c.args.end None (map (λ r. r.items) c.loop-alloc.lists)) (c.deref.ensures.value ∙ c.loop-alloc.invariant.was)
-          ∙ ap (λ q. push_all 0 (supplied_nodes net (as_of net.devices at c.args.entered.now)) q next c.args.end None (map (λ r. r.items) c.loop-alloc.lists)) (c.deref-in-loop-alloc.ensures.value ∙ now)
+          ∙ ap (λ q. push_all 0 q c.live-in-loop-alloc.result.now next c.args.end None (map (λ r. r.items) c.loop-alloc.lists)) (c.live.ensures ∙ c.loop-alloc.invariant.was.live)
+          ∙ ap (λ q. push_all 0 (supplied_nodes net (as_of net.devices at c.args.entered.now)) q next c.args.end None (map (λ r. r.items) c.loop-alloc.lists)) (c.live-in-loop-alloc.ensures ∙ now.live)
           ∙ ap (push_all 0 (supplied_nodes net (as_of net.devices at c.args.entered.now)) (supplied_nodes net (as_of net.devices next c.args.entered.now)) next c.args.end None) (c.loop-alloc.invariant.runs first set l early is were)
           ∙ passed net c.args.entered.now c.args.from at next first c.args.end set c.loop-alloc.invariant.on later (omega (arith, up, c.requires.below)) none l early is;
     }

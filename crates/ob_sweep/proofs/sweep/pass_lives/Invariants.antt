@@ -2,7 +2,7 @@ use Rattle.std.proofs.Common.{◌≡◌, ◌≤◌, ◌+◌, ◌-◌, ℕ, List,
 use Rattle.ob_net.specs.Network.{as_of}
 use Rattle.ob_sheet.specs.declared.Entry.{Entry}
 use Rattle.ob_sheet.specs.Positions.{entered}
-use Rattle.ob_sweep.specs.Steps.{all_runs_until, supplied_nodes}
+use Rattle.ob_sweep.specs.Steps.{IsSupplyAt, all_runs_until}
 use Rattle.ob_sweep.specs.Turns.{turns_between}
 use Rattle.ob_sweep.proofs.Sweeps.{AllEarlier}
 use Rattle.ob_sweep.proofs.sweep.pass_lives.Given as goal
@@ -18,7 +18,7 @@ invariant-loop-alloc l =
       device_room : l.net.device_room ≡ l.fn.net.device_room;
       counted : l.net.searches ≤ l.fn.net.searches + turns_between whole l.from l.at;
       long : length l.lists ≡ length l.fn.lists;
-      was : l.before.items ≡ supplied_nodes whole (as_of whole.devices l.at l.entered);
+      was : IsSupplyAt whole (as_of whole.devices l.at l.entered) l.before;
       runs : (first : ℕ) (set : List Entry) → first ≤ l.from → AllEarlier (l.from + 1) set → l.entered ≡ entered whole set
           → map (λ r. r.items) l.fn.lists ≡ all_runs_until whole set l.from first l.end → map (λ r. r.items) l.lists ≡ all_runs_until whole set l.at first l.end;
     }

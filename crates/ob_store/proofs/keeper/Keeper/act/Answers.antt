@@ -2,14 +2,20 @@ use Rattle.std.proofs.Common.{◌≡◌, Option, Some, Err, sym, ap, subst, ◌�
 use Rattle.std.specs.Prelude.{⊤, IfSome}
 use Rattle.std.specs.Option.{option_map}
 use Rattle.sqlite.specs.Held.{Held, state}
+use Rattle.sqlite.specs.State.{Survives}
 use Rattle.ob_state.specs.State.{BookState}
 use Rattle.ob_state.specs.States.{BookValue}
 use Rattle.ob_book.specs.Acts.{ActState}
-use Rattle.ob_commit.specs.Keeps.{KeepsNumbers}
+use Rattle.ob_sql_write.specs.Keeps.{KeepsNumbers}
 use Rattle.ob_store.specs.Acting.{HasActCause, under}
 use Rattle.ob_store.specs.Keeping.{KeeperValue, KeepsBook, Ties}
 use Rattle.ob_store.proofs.keeper.Keeper.act.Given as given
 use Rattle.ob_store.proofs.keeper.Keeper.act.Goals as goal
+
+-- what the connection survived
+survives_from : (g : given.Over) (k : KeeperValue g.row.S.Denot) (conn new : Held g.row.S.Denot) → conn ≡ k.conn
+    → Survives (state g.S.Store conn) (state g.S.Store new) (λ _. ⊤) → Survives (state g.S.Store k.conn) (state g.S.Store new) (λ _. ⊤)
+survives_from g k conn new conn_is = subst (λ (h : Held g.row.S.Denot). Survives (state g.S.Store h) (state g.S.Store new) (λ _. ⊤)) conn_is
 
 module _ (g : given.Over) (k : KeeperValue g.row.S.Denot) (conn : Held g.row.S.Denot) (conn_is : conn ≡ k.conn) (b : ActState) where
   keeps_in : Ties g.S.Store k b → KeepsBook (state g.S.Store conn) b
@@ -47,3 +53,9 @@ returns-in-Err-clause-cause g c clean b ties numbers some store =
     let book_is : option_map (λ (x : BookValue). x.state) c.self.inside.book ≡ k.book = ap (λ (x : KeeperValue g.row.S.Denot). x.book) c.self.view_is in
     let cause = c.in-Err.ensures.cause clean b (keeps_in g k conn conn_is b ties) (numbers_in g k conn conn_is b numbers) (same_in g k conn conn_is b c.self.inside.book c.in-Some.book book_is c.in-Some.is ties) in
     subst (λ (h : Held g.row.S.Denot). HasActCause g.S.Store {X = ⊤} h c.act_on.new.conn b (under c.args.reference c.args.command) (Err c.in-Err.stop)) conn_is cause store
+
+pub returns-in-Ok-clause-survives : goal.returns-in-Ok-clause-survives
+returns-in-Ok-clause-survives g c = survives_from g c.args.self.now c.self.inside.conn c.act_on.new.conn (ap (λ (x : KeeperValue g.row.S.Denot). x.conn) c.self.view_is) c.act_on.ensures.survives
+
+pub returns-in-Err-clause-survives : goal.returns-in-Err-clause-survives
+returns-in-Err-clause-survives g c = survives_from g c.args.self.now c.self.inside.conn c.act_on.new.conn (ap (λ (x : KeeperValue g.row.S.Denot). x.conn) c.self.view_is) c.act_on.ensures.survives

@@ -1,0 +1,15 @@
+use Rattle.std.proofs.Common.{◌≡◌, ◌-◌, ◌≤◌, length, vec_len}
+use Rattle.ob_stream.specs.Watching.{watched_bytes}
+use Rattle.ob_http_requests.specs.Unread.{ReadsMore}
+use Rattle.ob_http_requests.proofs.body.fill_body.Given as goal
+
+-- what the body has more was read
+abbrev pub invariant-pieces : goal.invariant-pieces
+invariant-pieces g l = record {
+  more : ReadsMore (watched_bytes g.R.Read.remaining l.fn.reader) (watched_bytes g.R.Read.remaining l.reader) l.fn.body.items l.body.items;
+  bound : vec_len l.body ≤ l.size;
+  room : length l.piece ≡ 4096;
+}
+
+abbrev pub decreases-pieces : goal.decreases-pieces
+decreases-pieces g l = l.size - vec_len l.body

@@ -1,0 +1,10 @@
+use Rattle.std.proofs.Common.{◌≡◌, length}
+use Rattle.httparse.specs.Grammar.{skip_ows}
+use Rattle.ob_http_requests.proofs.list.trim_start.Given as goal
+
+-- what is left begins with the same byte that is no white space
+abbrev pub invariant-loop-text : goal.invariant-loop-text
+invariant-loop-text l = skip_ows l.text ≡ skip_ows l.fn.text
+
+abbrev pub decreases-loop-text : goal.decreases-loop-text
+decreases-loop-text l = length l.text

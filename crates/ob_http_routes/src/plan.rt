@@ -1,0 +1,58 @@
+//! Answers what a command would do.
+ghost use Rattle.std.specs.Prelude.{◌≡◌, Some, None, Err, IsSome, IfOk};
+ghost use Rattle.ob_base.specs.declared.stop.Fault.{Fault as AFault};
+ghost use Rattle.ob_base.specs.declared.stop.Refusal.{Refusal as ARefusal};
+ghost use Rattle.ob_base.specs.declared.stop.Stop.{Stop as AStop};
+ghost use Rattle.ob_state.specs.State.{BookState};
+ghost use Rattle.ob_http_requests.specs.declared.framing.Method.{Method};
+ghost use Rattle.ob_http_routes.specs.Answers.{IsPlanAnswer, found as found_of, refused as refused_of};
+ghost use Rattle.ob_http_routes.specs.Answering.{RouteAnswered, Serves};
+ghost use Rattle.ob_http_routes.specs.declared.routes.Route.{Route};
+
+use crate::reply::{ReplyText, refused_reply, shown_reply};
+use ob_base::{Fault, Stop};
+use ob_http_replies::{MediaType, read_plan};
+use ob_store::{Alter, Keeper};
+use ob_sweep::Timeline;
+use std::alloc::Global;
+
+/// Returns what the command in a body would do, as JSON. Nothing changes.
+fn plan<S: Alter, T: Timeline>(
+    alloc: Global,
+    keeper: &mut Keeper<S, T>,
+    body: &[u8],
+) -> Result<Vec<u8>, Stop>
+    ensures same { keeper.new ≡ keeper.old }
+    ensures text { (b : BookState) → keeper.old.book ≡ Some b → IfOk result (λ text.
+        IsPlanAnswer b body.now (found_of MediaType.Json (Some text.items))) }
+    ensures refused { (b : BookState) → keeper.old.book ≡ Some b → (refusal : ARefusal)
+        → result ≡ Err (AStop.Refused refusal) → IsPlanAnswer b body.now (refused_of refusal) }
+    ensures err { IsSome keeper.old.book → (fault : AFault) → result ≡ Err (AStop.Fault fault)
+        → fault ≡ AFault.OutOfMemory }
+{
+    let command = read_plan(alloc, body)?;
+    keeper.plan(&command)
+}
+
+/// Replies what the command in a body would do. Nothing changes. `Fault::Reopen` if there is no
+/// book.
+pub(crate) fn post_plan<S: Alter, T: Timeline>(
+    alloc: Global,
+    keeper: &mut Keeper<S, T>,
+    body: &[u8],
+    closes: bool,
+) -> Result<ReplyText, Fault>
+    ensures serves { Serves S.Store keeper.old keeper.new
+        (λ b. RouteAnswered S.Store keeper.new b Method.Post (Some Route.Plan) body.now closes
+        result) None closes result }
+    ensures same { keeper.new ≡ keeper.old }
+{
+    if keeper.book().is_none() {
+        return Err(Fault::Reopen);
+    }
+    match plan(alloc, keeper, body) {
+        Ok(text) => shown_reply(alloc, MediaType::Json, &text, closes),
+        Err(Stop::Refused(refusal)) => refused_reply(alloc, &refusal, closes),
+        Err(Stop::Fault(fault)) => Err(fault),
+    }
+}

@@ -1,6 +1,0 @@
-use Rattle.std.proofs.Common.{sym}
-use Rattle.ob_parts.proofs.Rising.{length_all}
-use Rattle.ob_parts.proofs.numbered.NumberedListed.count.Goals as goal
-
-pub returns : goal.returns
-returns g c = sym (length_all g.K.Kind.row_of c.args.self.now.elements.now)

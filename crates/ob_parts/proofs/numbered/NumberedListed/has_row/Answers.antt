@@ -1,5 +1,0 @@
-use Rattle.ob_parts.proofs.Rising.{has_all}
-use Rattle.ob_parts.proofs.numbered.NumberedListed.has_row.Goals as goal
-
-pub returns : goal.returns
-returns g c = has_all g.K.Kind.row_of c.args.self.now.elements.now c.args._at c.requires

@@ -1,6 +1,0 @@
-use Rattle.ob_tables.specs.Rows.{customer_row}
-use Rattle.ob_parts.proofs.Rising.{has_place}
-use Rattle.ob_parts.proofs.parts.CustomersListed.has_row.Goals as goal
-
-pub returns : goal.returns
-returns c = has_place customer_row c.args.self.now.roll.now.customers c.args._at c.requires

@@ -1,5 +1,0 @@
-use Rattle.ob_replies.proofs.Sayings.{one_plan}
-use Rattle.ob_replies.proofs.command.json_plans_law.Goals as goal
-
-pub returns : goal.returns
-returns c = one_plan c.rows_law.ensures

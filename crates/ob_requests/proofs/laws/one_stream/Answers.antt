@@ -1,5 +1,0 @@
-use Rattle.ob_requests.proofs.StreamLemmas.{one-stream}
-use Rattle.ob_requests.proofs.laws.one_stream.Goals as goal
-
-pub returns : goal.returns
-returns c = one-stream

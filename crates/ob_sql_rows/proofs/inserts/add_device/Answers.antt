@@ -1,0 +1,13 @@
+use Rattle.std.proofs.Common.{◌<◌, ◌^◌, arith, rules}
+use Rattle.ob_sql_rows.proofs.Running.{changes}
+use Rattle.ob_sql_rows.proofs.Adding.{adds_device}
+use Rattle.ob_sql_rows.proofs.Referring.{lets_device}
+use Rattle.ob_sql_rows.proofs.inserts.add_device.Goals as goal
+
+pub returns : goal.returns
+returns g c =
+    let low : c.args.number < 2 ^ 16 = search rules in
+    let small : c.args.number < 2 ^ 32 = omega (arith, low) in
+    changes g.S.Store _ _ _ _ _ c.run.ensures
+    (λ ran. adds_device _ _ c.args.number c.args.device.now (rw (c.device_columns.ensures.columns, c.from.ensures) at ran))
+    (λ failed lets. lets_device _ _ c.args.number c.args.device.now small c.device_columns.ensures.short (rw (c.device_columns.ensures.columns, c.from.ensures) at failed) lets)

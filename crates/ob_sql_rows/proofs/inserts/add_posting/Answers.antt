@@ -1,0 +1,10 @@
+use Rattle.ob_sql_rows.proofs.Running.{changes}
+use Rattle.ob_sql_rows.proofs.Adding.{adds_posting}
+use Rattle.ob_sql_rows.proofs.Hiding.{lets_posting}
+use Rattle.ob_sql_rows.proofs.inserts.add_posting.Goals as goal
+
+pub returns : goal.returns
+returns g c =
+    changes g.S.Store _ _ _ _ _ c.run.ensures
+    (λ ran. adds_posting _ _ c.args.dim c.args.key (rw (c.posting_columns.ensures.columns, c.from.ensures, c.from-2.ensures) at ran))
+    (λ failed lets. lets_posting _ _ c.args.dim c.args.key (rw (c.posting_columns.ensures.columns, c.from.ensures, c.from-2.ensures) at failed) lets)

@@ -1,0 +1,17 @@
+pub mod Acting
+pub mod Begins
+pub mod Causes
+pub mod Changing
+pub mod Commits
+pub mod Failing
+pub mod Knowing
+pub mod Letting
+pub mod Listing
+pub mod Looking
+pub mod Moving
+pub mod NewBook
+pub mod Same
+pub mod Steps
+pub mod Tests
+pub mod Upgrading
+pub mod Zeros

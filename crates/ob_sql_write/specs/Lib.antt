@@ -1,0 +1,11 @@
+pub mod Acts
+pub mod Amounts
+pub mod Begins
+pub mod Changing
+pub mod Keeps
+pub mod Known
+pub mod Moves
+pub mod NewBook
+pub mod Stored
+pub mod Upgrade
+pub mod Within

@@ -1,7 +1,0 @@
-use Rattle.std.proofs.Common.{◌≡◌, length, map, take}
-use Rattle.sqlite.specs.Values.{bound}
-use Rattle.ob_tables.specs.Fields.{held}
-use Rattle.ob_tables.proofs.fields.values.Given as goal
-
-abbrev pub invariant-fields : goal.invariant-fields
-invariant-fields l = (length l.values ≡ 8) × (bound (take l.at l.values) ≡ map held (take l.at l.fields))
