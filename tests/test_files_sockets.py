@@ -252,6 +252,19 @@ class Files(OneBook):
         self.assertEqual((said[1:], self.book.exists()), (("refused 16 BadPeriod\n", 2), False))
 
 
+class LittleMemory(OneBook):
+    def test_the_stack(self) -> None:
+        """However little memory a process may have, the system doesn't end the program because its stack can't grow."""
+        self.make()
+        seen = set()
+        for kib in range(2_048, 12_288, 16):
+            words = ["prlimit", f"--as={kib * 1024}", *self.words("table")]
+            done = subprocess.run(words, capture_output=True, text=True, check=False)
+            self.assertGreaterEqual(done.returncode, 0, f"ended by a signal with {kib} KiB")
+            seen.add((done.returncode, done.stderr if done.returncode == 1 else ""))
+        self.assertEqual(seen, {(127, ""), (1, "fault 20 OutOfMemory\n"), (0, "")})  # 127: the libraries weren't loaded
+
+
 class StandardStreams(OneBook):
     def test_total(self) -> None:
         """`total` counts what comes on standard input, however it is cut, and opens no file."""
