@@ -1,0 +1,7 @@
+pub mod Columns
+pub mod KindTexts
+pub mod Alike
+pub mod Taken
+pub mod Alone
+pub mod Counting
+pub mod Example
