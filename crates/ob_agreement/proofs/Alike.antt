@@ -1,6 +1,5 @@
 -- A row without a civil moment, kind by kind: `total` and a book read it alike.
 use Rattle.std.proofs.Common.{◌≡◌, ◌∙◌, ap, ap₂, sym, refl, ℕ, ◌+◌, ◌<◌, ◌==◌, ◌||◌, Bool, true, false, List, [], ◌∷◌, length, Option, Some, None, Result, Ok, Err, codes, arith, if◌then◌else◌, bytes_eq}
-use Rattle.std.proofs.lemmas.Bool.Decides.{nat_tests}
 use Rattle.ob_base.specs.Fields.{act_in, cause_in, feeder_in, normal_in, serial_in, unix_second_in, until_in}
 use Rattle.ob_base.specs.Identifier.{identifier_in}
 use Rattle.ob_base.specs.Life.{life}
@@ -16,14 +15,11 @@ use Rattle.ob_total.specs.Commands.{command_of, with_value, since_in}
 use Rattle.ob_total.specs.declared.command.Command.{Command}
 use Rattle.ob_total.specs.declared.command.Command.TheVariants as counted
 use Rattle.ob_agreement.specs.Readings.{read_as_counted, is_of_book_alone, HasUnixSeconds, RowsAreReadAlike}
-use Rattle.ob_agreement.proofs.Columns.{of_book, after, column_alike, column_read_alike, ends_alike, moment_alike, rest_alike, until_alike}
+use Rattle.ob_agreement.proofs.Columns.{of_book, after, column_alike, column_read_alike, ends_alike, moment_alike, referred_counted, rest_alike, until_alike}
 use Rattle.ob_agreement.proofs.KindTexts.{by_word}
+use Rattle.ob_agreement.proofs.Lengths.{by_length}
 
 -- a bad reference is refused alike, and what follows a good one is read alike
-referred_counted : (name : List ℕ) (command : Result BookCommand Refusal) → read_as_counted (fields.referred name command) ≡ of_book command
-referred_counted name (Ok k) = refl
-referred_counted name (Err refusal) = refl
-
 referred_alike : (o : Option (List ℕ)) (said : Result (List ℕ × BookCommand) Refusal) (lhs : Result Command Refusal) (P : Result BookCommand Refusal → Type 0)
     → fields.IsReferred o P said → ((command : Result BookCommand Refusal) → P command → lhs ≡ of_book command) → with_value 2 o (λ r. lhs) ≡ read_as_counted said
 referred_alike None said lhs P is same = ap read_as_counted (sym is)
@@ -142,19 +138,8 @@ module _ (reference f1 f2 f3 f4 f5 f6 : List ℕ) (said : Result (List ℕ × Bo
       by_word kind (codes "connect") IsSo connect_case (λ e6.
       by_word kind (codes "switch") IsSo switch_case (λ e7. unknown_case kind e1 e2 e3 e4 e5 e6 e7)))))))
 
--- a row of too many fields
-too_long : (n : ℕ) (rest : Result Command Refusal) → 8 < n → (if n == 8 then rest else Err (BadField 0)) ≡ Err (BadField 0)
-too_long n rest long = let other : (n == 8) ≡ false = grind (arith, nat_tests, long) in rw other refl
-
 pub rows_are_read_alike : RowsAreReadAlike
-rows_are_read_alike [] said is shared plain = ap read_as_counted (sym is)
-rows_are_read_alike (a ∷ []) said is shared plain = ap read_as_counted (sym is)
-rows_are_read_alike (a ∷ b ∷ []) said is shared plain = ap read_as_counted (sym is)
-rows_are_read_alike (a ∷ b ∷ c ∷ []) said is shared plain = ap read_as_counted (sym is)
-rows_are_read_alike (a ∷ b ∷ c ∷ d ∷ []) said is shared plain = ap read_as_counted (sym is)
-rows_are_read_alike (a ∷ b ∷ c ∷ d ∷ e ∷ []) said is shared plain = ap read_as_counted (sym is)
-rows_are_read_alike (a ∷ b ∷ c ∷ d ∷ e ∷ f ∷ []) said is shared plain = ap read_as_counted (sym is)
-rows_are_read_alike (a ∷ b ∷ c ∷ d ∷ e ∷ f ∷ g ∷ []) said is shared plain = ap read_as_counted (sym is)
-rows_are_read_alike (a ∷ b ∷ c ∷ d ∷ e ∷ f ∷ g ∷ h ∷ []) said is shared plain = row_alike b c d e f g h said a is shared plain
-rows_are_read_alike (a ∷ b ∷ c ∷ d ∷ e ∷ f ∷ g ∷ h ∷ i ∷ more) said is shared plain =
-    too_long (length (a ∷ b ∷ c ∷ d ∷ e ∷ f ∷ g ∷ h ∷ i ∷ more)) _ (omega arith) ∙ ap read_as_counted (sym is)
+rows_are_read_alike =
+    by_length (λ row. (said : Result (List ℕ × BookCommand) Refusal) → fields.IsRow row said → is_of_book_alone row ≡ false → HasUnixSeconds row → command_of row ≡ read_as_counted said)
+    (λ kind reference f1 f2 f3 f4 f5 f6 said is shared plain. row_alike reference f1 f2 f3 f4 f5 f6 said kind is shared plain)
+    (λ row total book said is shared plain. total ∙ ap read_as_counted (sym (book said is)))

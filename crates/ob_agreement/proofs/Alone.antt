@@ -5,14 +5,16 @@ use Rattle.std.specs.Prelude.{IsOk}
 use Rattle.ob_base.specs.Fields.{act_in, cause_in, serial_in}
 use Rattle.ob_base.specs.Identifier.{identifier_in}
 use Rattle.ob_base.specs.declared.stop.Refusal.{Refusal}
+use Rattle.ob_base.specs.declared.stop.Refusal.TheVariants.{BadField}
 use Rattle.ob_csv.specs.Rows.{Fields}
 use Rattle.ob_command.specs.Commands.{operation_of, service_between}
 use Rattle.ob_command.specs.Fields as fields
 use Rattle.ob_command.specs.declared.command.Command.{Command as BookCommand}
 use Rattle.ob_command.specs.declared.command.Command.TheVariants.{Revise, Correct, Withdraw, Mark, Unmark}
 use Rattle.ob_agreement.specs.Readings.{as_counted, is_of_book_alone, read_as_counted}
-use Rattle.ob_agreement.proofs.Columns.{of_book}
+use Rattle.ob_agreement.proofs.Columns.{of_book, referred_counted}
 use Rattle.ob_agreement.proofs.KindTexts.{by_word, is_alone}
+use Rattle.ob_agreement.proofs.Lengths.{by_length}
 
 -- what a book reads is a refusal, or no command of `total`
 abbrev IsOther : Result BookCommand Refusal → Type 0
@@ -35,10 +37,6 @@ rest_other n ((byte ∷ bytes) ∷ rest) k other = refl
 
 after : {said x : Result BookCommand Refusal} → said ≡ x → IsOther x → IsOther said
 after is other = ap (λ r. is_ok (of_book r)) is ∙ other
-
-referred_counted : (name : List ℕ) (command : Result BookCommand Refusal) → read_as_counted (fields.referred name command) ≡ of_book command
-referred_counted name (Ok k) = refl
-referred_counted name (Err refusal) = refl
 
 -- behind a bad reference too
 referred_other : (o : Option (List ℕ)) (said : Result (List ℕ × BookCommand) Refusal) (P : Result BookCommand Refusal → Type 0)
@@ -88,13 +86,7 @@ module _ (reference f1 f2 f3 f4 f5 f6 : List ℕ) (said : Result (List ℕ × Bo
 
 -- a row in which a book reads a command of `total` is of no kind that a book alone has
 pub counted_is_shared : (row : Fields) (reference : List ℕ) (k : BookCommand) → fields.IsRow row (Ok (reference, k)) → IsOk (as_counted k) → is_of_book_alone row ≡ false
-counted_is_shared [] reference k is counted = absurd (cc)
-counted_is_shared (a ∷ []) reference k is counted = absurd (cc)
-counted_is_shared (a ∷ b ∷ []) reference k is counted = absurd (cc)
-counted_is_shared (a ∷ b ∷ c ∷ []) reference k is counted = absurd (cc)
-counted_is_shared (a ∷ b ∷ c ∷ d ∷ []) reference k is counted = absurd (cc)
-counted_is_shared (a ∷ b ∷ c ∷ d ∷ e ∷ []) reference k is counted = absurd (cc)
-counted_is_shared (a ∷ b ∷ c ∷ d ∷ e ∷ f ∷ []) reference k is counted = absurd (cc)
-counted_is_shared (a ∷ b ∷ c ∷ d ∷ e ∷ f ∷ g ∷ []) reference k is counted = absurd (cc)
-counted_is_shared (a ∷ b ∷ c ∷ d ∷ e ∷ f ∷ g ∷ h ∷ []) reference k is counted = kind_is_shared b c d e f g h (Ok (reference, k)) a is counted
-counted_is_shared (a ∷ b ∷ c ∷ d ∷ e ∷ f ∷ g ∷ h ∷ i ∷ more) reference k is counted = absurd (cc)
+counted_is_shared =
+    by_length (λ row. (reference : List ℕ) (k : BookCommand) → fields.IsRow row (Ok (reference, k)) → IsOk (as_counted k) → is_of_book_alone row ≡ false)
+    (λ kind r f1 f2 f3 f4 f5 f6 reference k is counted. kind_is_shared r f1 f2 f3 f4 f5 f6 (Ok (reference, k)) kind is counted)
+    (λ row total book reference k is counted. let other : Ok (reference, k) ≡ Err (BadField 0) = book (Ok (reference, k)) is in absurd (cc))

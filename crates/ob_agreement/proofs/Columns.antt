@@ -11,12 +11,17 @@ use Rattle.ob_command.specs.Ranges.{EndNames, end_names}
 use Rattle.ob_command.specs.declared.command.Command.{Command as BookCommand}
 use Rattle.ob_total.specs.Commands.{other_node_in, since_in, with_empty, with_value}
 use Rattle.ob_total.specs.declared.command.Command.{Command}
-use Rattle.ob_agreement.specs.Readings.{as_counted, IsCivil}
+use Rattle.ob_agreement.specs.Readings.{as_counted, read_as_counted, IsCivil}
 
 -- what `total` makes of a book's command or of its refusal
 abbrev pub of_book : Result BookCommand Refusal → Result Command Refusal
 of_book (Ok command) = as_counted command
 of_book (Err refusal) = Err refusal
+
+-- and of its command under a reference
+pub referred_counted : (name : List ℕ) (command : Result BookCommand Refusal) → read_as_counted (fields.referred name command) ≡ of_book command
+referred_counted name (Ok k) = refl
+referred_counted name (Err refusal) = refl
 
 -- what a book read is what its definition says
 pub after : {lhs : Result Command Refusal} {said x : Result BookCommand Refusal} → said ≡ x → lhs ≡ of_book x → lhs ≡ of_book said

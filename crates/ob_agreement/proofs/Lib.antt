@@ -1,4 +1,5 @@
 pub mod Columns
+pub mod Lengths
 pub mod KindTexts
 pub mod Alike
 pub mod Taken

@@ -25,6 +25,7 @@ use Rattle.ob_total.specs.declared.command.Kind.{Kind}
 use Rattle.ob_total.specs.declared.command.Kind.TheVariants as kinds
 use Rattle.ob_agreement.specs.Readings.{is_of_book_alone, read_as_counted, IsCivil, HasUnixSeconds, OtherRowsAreRefused, TakenRowsAreRead}
 use Rattle.ob_agreement.proofs.Alike.{rows_are_read_alike}
+use Rattle.ob_agreement.proofs.Lengths.{by_length}
 use Rattle.ob_agreement.proofs.KindTexts.{found_here, found_nowhere, kind_shared, kind_short, same_text}
 
 -- what `total` takes has each column's value
@@ -195,27 +196,14 @@ module _ (kind reference f1 f2 f3 f4 f5 f6 : List ℕ) where
             two reference behind (identifier_is_plain 40 reference r.0 r.1) (fields_are_plain t.0 c r.2)),
       )
 
--- a row of another number of fields is refused
-wrong_length : (test : Bool) (rest : Result Command Refusal) (c : Command) → test ≡ false → (if test then rest else Err (BadField 0)) ≡ Ok c → ⊥
-wrong_length true rest c wrong is = absurd (cc)
-wrong_length false rest c wrong is = absurd (cc)
-
-nine : (n : ℕ) → 8 < n → (n == 8) ≡ false
-nine n long = grind (arith, nat_tests)
+not_both : (r : Result Command Refusal) (c : Command) → r ≡ Err (BadField 0) → r ≡ Ok c → ⊥
+not_both r c refused taken = cc
 
 pub taken_rows_are_such : (row : Fields) (c : Command) → command_of row ≡ Ok c → (is_of_book_alone row ≡ false) × HasUnixSeconds row
-taken_rows_are_such [] c is = absurd (cc)
-taken_rows_are_such (a ∷ []) command is = absurd (cc)
-taken_rows_are_such (a ∷ b ∷ []) command is = absurd (cc)
-taken_rows_are_such (a ∷ b ∷ c ∷ []) command is = absurd (cc)
-taken_rows_are_such (a ∷ b ∷ c ∷ d ∷ []) command is = absurd (cc)
-taken_rows_are_such (a ∷ b ∷ c ∷ d ∷ e ∷ []) command is = absurd (cc)
-taken_rows_are_such (a ∷ b ∷ c ∷ d ∷ e ∷ f ∷ []) command is = absurd (cc)
-taken_rows_are_such (a ∷ b ∷ c ∷ d ∷ e ∷ f ∷ g ∷ []) command is = absurd (cc)
-taken_rows_are_such (a ∷ b ∷ c ∷ d ∷ e ∷ f ∷ g ∷ h ∷ []) command is = row_is_such a b c d e f g h command is
-taken_rows_are_such (a ∷ b ∷ c ∷ d ∷ e ∷ f ∷ g ∷ h ∷ i ∷ more) command is =
-    let row : Fields = a ∷ b ∷ c ∷ d ∷ e ∷ f ∷ g ∷ h ∷ i ∷ more in
-    absurd (wrong_length (length row == 8) _ command (nine (length row) (omega arith)) is)
+taken_rows_are_such =
+    by_length (λ row. (c : Command) → command_of row ≡ Ok c → (is_of_book_alone row ≡ false) × HasUnixSeconds row)
+    (λ kind reference f1 f2 f3 f4 f5 f6 c is. row_is_such kind reference f1 f2 f3 f4 f5 f6 c is)
+    (λ row total book c is. absurd (not_both (command_of row) c total is))
 
 -- ---- the laws
 pub taken_rows_are_read : TakenRowsAreRead
