@@ -1,5 +1,5 @@
 -- A row without a civil moment, kind by kind: `total` and a book read it alike.
-use Rattle.std.proofs.Common.{◌≡◌, ◌∙◌, ap, ap₂, sym, refl, ℕ, ◌+◌, ◌<◌, ◌==◌, ◌||◌, Bool, true, false, List, [], ◌∷◌, length, Option, Some, None, Result, Ok, Err, codes, arith, if◌then◌else◌, bytes_eq}
+use Rattle.std.proofs.Common.{◌≡◌, ◌∙◌, ap, ap₂, sym, refl, ℕ, ◌||◌, Bool, true, false, List, [], ◌∷◌, Option, Some, None, Result, Ok, Err, codes, arith, bytes_eq}
 use Rattle.ob_base.specs.Fields.{act_in, cause_in, feeder_in, normal_in, serial_in, unix_second_in, until_in}
 use Rattle.ob_base.specs.Identifier.{identifier_in}
 use Rattle.ob_base.specs.Life.{life}

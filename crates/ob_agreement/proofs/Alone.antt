@@ -1,5 +1,5 @@
 -- A row of a kind that a book alone has: what a book reads in it is no command of `total`.
-use Rattle.std.proofs.Common.{◌≡◌, ◌∙◌, ap, sym, subst, refl, ℕ, ◌+◌, ◌<◌, ◌||◌, Bool, true, false, List, [], ◌∷◌, Option, Some, None, Result, Ok, Err, is_ok, option_map, codes, bytes_eq, if◌then◌else◌}
+use Rattle.std.proofs.Common.{◌≡◌, ◌∙◌, ap, sym, refl, ℕ, ◌+◌, true, false, List, [], ◌∷◌, Option, Some, None, Result, Ok, Err, is_ok, option_map, codes, bytes_eq, if◌then◌else◌}
 use Rattle.std.proofs.lemmas.Bool.{true≢false}
 use Rattle.std.specs.Prelude.{IsOk}
 use Rattle.ob_base.specs.Fields.{act_in, cause_in, serial_in}
@@ -7,10 +7,10 @@ use Rattle.ob_base.specs.Identifier.{identifier_in}
 use Rattle.ob_base.specs.declared.stop.Refusal.{Refusal}
 use Rattle.ob_base.specs.declared.stop.Refusal.TheVariants.{BadField}
 use Rattle.ob_csv.specs.Rows.{Fields}
-use Rattle.ob_command.specs.Commands.{operation_of, service_between}
+use Rattle.ob_command.specs.Commands.{service_between}
 use Rattle.ob_command.specs.Fields as fields
 use Rattle.ob_command.specs.declared.command.Command.{Command as BookCommand}
-use Rattle.ob_command.specs.declared.command.Command.TheVariants.{Revise, Correct, Withdraw, Mark, Unmark}
+use Rattle.ob_command.specs.declared.command.Command.TheVariants.{Revise, Withdraw, Mark, Unmark}
 use Rattle.ob_agreement.specs.Readings.{as_counted, is_of_book_alone, read_as_counted}
 use Rattle.ob_agreement.proofs.Columns.{of_book, referred_counted}
 use Rattle.ob_agreement.proofs.KindTexts.{by_word, is_alone}

@@ -1,15 +1,14 @@
 -- One column after the other: how `total` goes on, how a book does, and what each reads in a column.
-use Rattle.std.proofs.Common.{◌≡◌, ◌∙◌, ap, sym, refl, inl, inr, ℕ, ◌+◌, ◌<◌, ◌≤◌, Bool, true, false, List, [], ◌∷◌, length, Option, Some, None, option_map, option_and_then, Result, Ok, Err, arith, if◌then◌else◌, bytes_eq}
+use Rattle.std.proofs.Common.{◌≡◌, ◌∙◌, ap, sym, refl, inl, inr, ℕ, ◌+◌, true, false, List, [], ◌∷◌, Option, Some, None, option_map, option_and_then, Result, Ok, Err, if◌then◌else◌, bytes_eq}
 use Rattle.ob_base.specs.Fields.{unix_second_in, until_in}
 use Rattle.ob_base.specs.Identifier.{identifier_in}
 use Rattle.ob_base.specs.declared.stop.Refusal.{Refusal}
-use Rattle.ob_base.specs.declared.stop.Refusal.TheVariants.{BadField}
 use Rattle.ob_time.specs.Moment.{IsSecondText}
 use Rattle.ob_command.specs.Fields as fields
 use Rattle.ob_command.specs.Spellings.{ends_from, Gives}
 use Rattle.ob_command.specs.Ranges.{EndNames, end_names}
 use Rattle.ob_command.specs.declared.command.Command.{Command as BookCommand}
-use Rattle.ob_total.specs.Commands.{other_node_in, since_in, with_empty, with_value}
+use Rattle.ob_total.specs.Commands.{other_node_in, with_empty, with_value}
 use Rattle.ob_total.specs.declared.command.Command.{Command}
 use Rattle.ob_agreement.specs.Readings.{as_counted, read_as_counted, IsCivil}
 

@@ -1,5 +1,5 @@
 -- The text of a total and a book, row by row: one network, one log and one register.
-use Rattle.std.proofs.Common.{◌≡◌, ◌∙◌, ap, sym, subst, refl, ℕ, ◌+◌, ◌<◌, ◌≤◌, ◌==◌, ◌||◌, ◌&&◌, Bool, true, false, List, [], ◌∷◌, ◌++◌, length, nat_lt, nat_le, Option, Some, None, is_none, is_ok, unwrap_or, Result, Ok, Err, arith, if◌then◌else◌}
+use Rattle.std.proofs.Common.{◌≡◌, ◌∙◌, ap, sym, refl, ℕ, ◌+◌, ◌≤◌, ◌==◌, ◌||◌, Bool, true, false, List, [], ◌∷◌, ◌++◌, length, nat_lt, nat_le, Option, Some, None, is_none, is_ok, unwrap_or, Result, Ok, Err, arith, if◌then◌else◌}
 use Rattle.std.specs.Prelude.{IsOk}
 use Rattle.std.specs.List.{All}
 use Rattle.std.proofs.lemmas.List.Elements.{All-head, All-tail}
@@ -21,12 +21,11 @@ use Rattle.ob_state.specs.State.{BookState}
 use Rattle.ob_state.specs.Refusals.{connect_refusal_on, first, if_full, if_full_sheet, if_outside, if_unknown_cause, if_unknown_device, refusal, refuse_if}
 use Rattle.ob_state.specs.Next as book
 use Rattle.ob_book.specs.Acts.{ActState, Referenced, act, acts, is_accepted, start, take_on, number_of}
-use Rattle.ob_book.specs.Views.{without_supply_of_book}
 use Rattle.ob_total.specs.Commands.{command_of}
 use Rattle.ob_total.specs.declared.command.Command.{Command}
 use Rattle.ob_total.specs.Totals.{Refused, after_row, begun, stepped, total_from, total_of, total_of_rows}
 use Rattle.ob_total.specs.declared.command.Span.{Span}
-use Rattle.ob_total.specs.Worlds.{WorldState, customer_seconds_of, next, switch_refusal, unless_refused, with_known}
+use Rattle.ob_total.specs.Worlds.{WorldState, customer_seconds_of, unless_refused, with_known}
 use Rattle.ob_agreement.specs.Readings.{as_counted, HasUnixSeconds}
 use Rattle.ob_agreement.specs.Counts.{AreAccepted, AreReadIn, BookIsCounted, CountIsOfBook, IsTextOf}
 use Rattle.ob_agreement.proofs.Alike.{rows_are_read_alike}

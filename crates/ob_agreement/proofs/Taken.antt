@@ -1,7 +1,6 @@
 -- A row that `total` takes: no field of it is a civil moment, and its kind isn't one that a book alone has.
-use Rattle.std.proofs.Common.{◌≡◌, ◌∙◌, ◌⊎◌, ap, sym, subst, refl, inl, inr, ℕ, ◌+◌, ◌<◌, ◌≤◌, ◌&&◌, ◌==◌, Bool, true, false, List, [], ◌∷◌, ◌++◌, drop, length, Option, Some, None, option_and_then, option_map, Result, Ok, Err, codes, arith, if◌then◌else◌, bytes_eq, nat_lt, nat_le}
+use Rattle.std.proofs.Common.{◌≡◌, ◌∙◌, ◌⊎◌, ap, sym, subst, refl, inl, inr, ℕ, ◌+◌, ◌<◌, ◌&&◌, Bool, true, false, List, [], ◌∷◌, ◌++◌, drop, length, Option, Some, None, option_and_then, option_map, Result, Ok, Err, codes, arith, if◌then◌else◌, bytes_eq, nat_lt, nat_le}
 use Rattle.std.proofs.lemmas.Bool.{and_parts, cases_lt, false≢true}
-use Rattle.std.proofs.lemmas.Bool.Decides.{nat_tests}
 use Rattle.std.proofs.lemmas.List.Elements.{All-cons, All-drop, All-nil, All-take}
 use Rattle.std.proofs.lemmas.List.Sums.{AllPass-from_list_all}
 use Rattle.std.specs.Result.{IsErr}
@@ -16,14 +15,12 @@ use Rattle.ob_base.specs.declared.stop.Refusal.{Refusal}
 use Rattle.ob_base.specs.declared.stop.Refusal.TheVariants.{BadField}
 use Rattle.ob_csv.specs.Rows.{Fields}
 use Rattle.ob_time.specs.Moment.{IsCivilText}
-use Rattle.ob_command.specs.Fields.{IsRow}
-use Rattle.ob_command.specs.declared.command.Command.{Command as BookCommand}
 use Rattle.ob_total.specs.Commands.{command_by, command_of, kind_in, other_node_in, since_in, with_empty, with_value}
 use Rattle.ob_total.specs.declared.command.Command.{Command}
 use Rattle.ob_total.specs.declared.command.Command.TheVariants as counted
 use Rattle.ob_total.specs.declared.command.Kind.{Kind}
 use Rattle.ob_total.specs.declared.command.Kind.TheVariants as kinds
-use Rattle.ob_agreement.specs.Readings.{is_of_book_alone, read_as_counted, IsCivil, HasUnixSeconds, OtherRowsAreRefused, TakenRowsAreRead}
+use Rattle.ob_agreement.specs.Readings.{is_of_book_alone, IsCivil, HasUnixSeconds, OtherRowsAreRefused, TakenRowsAreRead}
 use Rattle.ob_agreement.proofs.Alike.{rows_are_read_alike}
 use Rattle.ob_agreement.proofs.Lengths.{by_length}
 use Rattle.ob_agreement.proofs.KindTexts.{found_here, found_nowhere, kind_shared, kind_short, same_text}

@@ -1,6 +1,6 @@
--- What a row says to `total` and to a book: one and the same, with two exceptions. A book reads moments as Unix seconds and
--- as civil moments, `total` as Unix seconds alone. And a book has five kinds of command more: revise, correct, withdraw,
--- mark and unmark. `total` has no use for a cause's code and name, but refuses the same ones.
+-- What a row says to `total` and to a book: one and the same, with two exceptions. A book reads Unix seconds and civil
+-- moments, `total` Unix seconds alone. And a book has five kinds of command more: revise, correct, withdraw, mark and
+-- unmark. `total` reads a cause's code and name as a book does, and keeps neither.
 use Rattle.std.specs.Prelude.{◌≡◌, ◌⊎◌, ℕ, Bool, true, false, List, [], ◌∷◌, Result, Ok, Err, IsErr, codes}
 use Rattle.std.specs.List.{All, Any, list_any}
 use Rattle.std.specs.Str.{bytes_eq}
