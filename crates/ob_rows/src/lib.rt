@@ -19,4 +19,4 @@ pub use laws::rows_law;
 pub use row::InterruptionRow;
 pub use rows::each_row;
 pub use sink::RowSink;
-pub use text::line_of_row;
+pub use text::RowText;
