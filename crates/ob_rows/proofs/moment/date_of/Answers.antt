@@ -1,7 +1,7 @@
 use Rattle.std.proofs.Common.{◌≡◌, ◌∙◌, ap, sym, pos, arith, rules}
 use Rattle.jiff_core.specs.Date.{epoch_day}
 use Rattle.jiff_core.proofs.SignedLemmas.{signed_arith}
-use Rattle.ob_time.specs.Dates.{day_text, ymd_text}
+use Rattle.ob_time.specs.Dates.{day_text}
 use Rattle.ob_rows.proofs.Dates.{day_text-is, no_year_below_zero}
 use Rattle.ob_rows.proofs.moment.date_of.Goals as goal
 
