@@ -8,6 +8,7 @@
 //! counts of interruptions; and which bytes a line has. `ob_jobs` uses this crate.
 #![tactic(auto)]
 
+mod known;
 mod laws;
 mod moment;
 mod row;

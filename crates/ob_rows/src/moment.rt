@@ -22,8 +22,8 @@ pub(crate) fn push_second(text: &mut Vec<u8>, second: Second) -> Result<(), Allo
     }
 }
 
-// The text of a moment of UTC.
-fn moment_of(second: Second) -> [u8; 20]
+/// The text of a moment of UTC.
+pub(crate) fn moment_of(second: Second) -> [u8; 20]
     requires { second ≤ 99_999_999_999 }
     ensures { result ≡ utc_text second }
 {

@@ -4,6 +4,7 @@ ghost use Rattle.ob_book.specs.Forecasts.{name_of_node};
 ghost use Rattle.ob_rows.specs.Moments.{moment_text};
 ghost use Rattle.ob_rows.specs.RowText.{IsStartOf, cause_field, mark_word, optional, row_line, start_text};
 
+use crate::known::{Known, push_known};
 use crate::moment::push_second;
 use crate::row::InterruptionRow;
 use itoa::Buffer;
@@ -16,12 +17,13 @@ use std::marker::Model;
 /// Appends the lines of rows of a book to texts. The section and the cause stand by their names.
 ///
 /// Keeps the start of the last line, since a row mostly has the section and the service of the one
-/// before it.
+/// before it, and the texts of some moments.
 #[derive(Drop)]
 pub struct RowText<'b, T: Timeline> {
     book: &'b Book<T>,
     start: Vec<u8>,
     row: Option<InterruptionRow>,
+    known: Vec<Known>,
 }
 
 impl<'b, T: Timeline> Model for RowText<'b, T> {
@@ -47,6 +49,7 @@ impl<'b, T: Timeline> RowText<'b, T> {
             book,
             start: Vec::new(alloc),
             row: None,
+            known: Vec::new(alloc),
         }
     }
 
@@ -58,7 +61,7 @@ impl<'b, T: Timeline> RowText<'b, T> {
     {
         keep_start(&mut self.start, &mut self.row, self.book, row)?;
         text.extend_from_slice(&self.start)?;
-        push_end(text, self.book, row)
+        push_end(text, &mut self.known, self.book, row)
     }
 }
 
@@ -127,6 +130,7 @@ fn push_start<T: Timeline>(
 // Appends the fields from the first second on, and LF.
 fn push_end<T: Timeline>(
     line: &mut Vec<u8>,
+    known: &mut Vec<Known>,
     book: &Book<T>,
     row: &InterruptionRow,
 ) -> Result<(), AllocError>
@@ -134,9 +138,9 @@ fn push_end<T: Timeline>(
         ++ 44 ∷ moment_text row.now.until ++ 44 ∷ cause_field book.now.state row.now.cause
         ++ 44 ∷ optional decimal row.now.entry ++ 44 ∷ mark_word row.now.marked ++ 10 ∷ []) }
 {
-    push_second(line, row.since)?;
+    push_known(line, known, row.since)?;
     line.push(b',')?;
-    push_second(line, row.until)?;
+    push_known(line, known, row.until)?;
     line.push(b',')?;
     push_cause(line, book, row.cause)?;
     line.push(b',')?;
