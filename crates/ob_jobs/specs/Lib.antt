@@ -12,3 +12,4 @@ pub mod Books
 pub mod Exporting
 pub mod Text
 pub mod Rows
+pub mod Gathering

@@ -9,13 +9,13 @@ ghost use Rattle.ob_jobs.specs.Rows.{RowsOfBook, TellsRows, WritesRows, WritesRo
 use crate::ending::end_of_job;
 use crate::export::line_of;
 use crate::opening::OpenOutput;
-use crate::row_lines::RowLines;
+use crate::row_lines::{RowLines, room_for_lines};
 use crate::tell::tell;
 use ob_base::{Fault, Stop};
 use ob_book::Book;
 use ob_cli::Unfinished;
 use ob_import::Progress;
-use ob_rows::each_row;
+use ob_rows::RowText;
 use ob_store::{Alter, Keeper};
 use ob_stream::{Retries, Watched, write_text};
 use ob_sweep::Timeline;
@@ -111,6 +111,8 @@ fn write_lines<F: Write, T: Timeline>(
         (row_lines book.now.state (interruption_rows book.now.state))
         (length (interruption_rows book.now.state)) result }
 {
-    let mut lines = RowLines::new(alloc, book, file, retries);
-    each_row(book, &mut lines)
+    let mut gathered = room_for_lines(alloc)?;
+    let mut text = RowText::new(alloc, book);
+    let mut lines = RowLines::new(&mut text, file, retries, &mut gathered);
+    lines.write_rows(book)
 }

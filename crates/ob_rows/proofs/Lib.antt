@@ -8,3 +8,4 @@ pub mod RowLaws
 pub mod Keyed
 pub mod Found
 pub mod Example
+mod RowLine

@@ -1,5 +1,5 @@
 -- Interruption rows as CSV.
-use Rattle.std.specs.Prelude.{ℕ, Bool, true, false, List, [], ◌∷◌, ◌++◌, Option, codes, decimal, unwrap_or}
+use Rattle.std.specs.Prelude.{◌≡◌, ℕ, Bool, true, false, List, [], ◌∷◌, ◌++◌, Option, IfSome, codes, decimal, unwrap_or}
 use Rattle.std.specs.List.{flat_map}
 use Rattle.std.specs.Option.{option_map_or}
 use Rattle.ob_state.specs.State.{BookState, cause_name_of}
@@ -37,6 +37,20 @@ abbrev pub row_line : BookState → InterruptionRow → List ℕ
 row_line b r =
     csv_line (name_of_node b r.section) (decimal r.feeder ∷ decimal r.customers ∷ moment_text r.service_since ∷ optional moment_text r.service_until
     ∷ moment_text r.since ∷ moment_text r.until ∷ cause_field b r.cause ∷ optional decimal r.entry ∷ mark_word r.marked ∷ [])
+
+-- the fields of a row up to the end of its service, with a comma behind each
+abbrev pub start_text : BookState → InterruptionRow → List ℕ
+start_text b r =
+    name_of_node b r.section ++ (44 ∷ (decimal r.feeder ++ (44 ∷ (decimal r.customers ++ (44 ∷ (moment_text r.service_since
+    ++ (44 ∷ (optional moment_text r.service_until ++ (44 ∷ [])))))))))
+
+-- its other fields, with commas between them, and LF behind
+abbrev pub end_text : BookState → InterruptionRow → List ℕ
+end_text b r = csv_line (moment_text r.since) (moment_text r.until ∷ cause_field b r.cause ∷ optional decimal r.entry ∷ mark_word r.marked ∷ [])
+
+-- the text is the start of the line of this row, if there is one
+abbrev pub IsStartOf : BookState → Option InterruptionRow → List ℕ → Type 0
+IsStartOf b row text = IfSome row (λ r. text ≡ start_text b r)
 
 -- the lines of rows
 abbrev pub row_lines : BookState → List InterruptionRow → List ℕ

@@ -8,6 +8,7 @@
 //! counts of interruptions; and which bytes a line has. `ob_jobs` uses this crate.
 #![tactic(auto)]
 
+mod known;
 mod laws;
 mod moment;
 mod row;
@@ -19,4 +20,4 @@ pub use laws::rows_law;
 pub use row::InterruptionRow;
 pub use rows::each_row;
 pub use sink::RowSink;
-pub use text::line_of_row;
+pub use text::RowText;

@@ -1,9 +1,10 @@
-//! The line of an interruption row in CSV.
-ghost use Rattle.std.specs.Prelude.{◌≡◌, ◌++◌, ◌∷◌, [], decimal, IfOk, OnOk};
+//! The lines of interruption rows in CSV.
+ghost use Rattle.std.specs.Prelude.{◌≡◌, ◌++◌, ◌∷◌, [], decimal, IfOk, IfSome, OnOk, true};
 ghost use Rattle.ob_book.specs.Forecasts.{name_of_node};
 ghost use Rattle.ob_rows.specs.Moments.{moment_text};
-ghost use Rattle.ob_rows.specs.RowText.{cause_field, mark_word, optional, row_line};
+ghost use Rattle.ob_rows.specs.RowText.{IsStartOf, cause_field, mark_word, optional, row_line, start_text};
 
+use crate::known::{Known, push_known};
 use crate::moment::push_second;
 use crate::row::InterruptionRow;
 use itoa::Buffer;
@@ -11,20 +12,95 @@ use ob_base::Second;
 use ob_book::Book;
 use ob_sweep::Timeline;
 use std::alloc::{AllocError, Global};
+use std::marker::Model;
 
-/// The line of an interruption row of a book: its ten fields with commas between them, and LF. The
-/// section and the cause stand by their names. Fails only if an allocation fails.
-pub fn line_of_row<T: Timeline>(
-    alloc: Global,
+/// Appends the lines of rows of a book to texts. The section and the cause stand by their names.
+///
+/// Keeps the start of the last line, since a row mostly has the section and the service of the one
+/// before it, and the texts of some moments.
+#[derive(Drop)]
+pub struct RowText<'b, T: Timeline> {
+    book: &'b Book<T>,
+    start: Vec<u8>,
+    row: Option<InterruptionRow>,
+    known: Vec<Known>,
+}
+
+impl<'b, T: Timeline> Model for RowText<'b, T> {
+    ghost use Rattle.ob_state.specs.State.{BookState};
+    ghost use Rattle.ob_rows.specs.RowText.{IsStartOf};
+
+    ghost Value = { BookState };
+
+    ghost view = { λ t. t.book.now.state };
+
+    ghost invariant = { λ t. IsStartOf t.book.now.state t.row t.start.items };
+}
+
+impl<'b, T: Timeline> RowText<'b, T> {
+    ghost use Rattle.std.specs.Prelude.{◌≡◌, ◌++◌, OnOk};
+    ghost use Rattle.ob_rows.specs.RowText.{row_line};
+
+    /// The texts of the rows of this book.
+    pub fn new(alloc: Global, book: &'b Book<T>) -> RowText<'b, T>
+        ensures { result ≡ book.now.state }
+    {
+        RowText {
+            book,
+            start: Vec::new(alloc),
+            row: None,
+            known: Vec::new(alloc),
+        }
+    }
+
+    /// Appends the line of a row: its ten fields with commas between them, and LF. Fails only if an
+    /// allocation fails.
+    pub fn push_line(&mut self, text: &mut Vec<u8>, row: &InterruptionRow) -> Result<(), AllocError>
+        ensures line { OnOk result (text.new.items ≡ text.old.items ++ row_line self.old row.now) }
+        ensures book { self.new ≡ self.old }
+    {
+        keep_start(&mut self.start, &mut self.row, self.book, row)?;
+        text.extend_from_slice(&self.start)?;
+        push_end(text, &mut self.known, self.book, row)
+    }
+}
+
+// Makes a text the start of a row's line, unless it is that already.
+fn keep_start<T: Timeline>(
+    start: &mut Vec<u8>,
+    kept: &mut Option<InterruptionRow>,
     book: &Book<T>,
     row: &InterruptionRow,
-) -> Result<Vec<u8>, AllocError>
-    ensures { IfOk result (λ line. line.items ≡ row_line book.now.state row.now) }
+) -> Result<(), AllocError>
+    requires { IsStartOf book.now.state kept.old start.old.items }
+    ensures made { OnOk result (start.new.items ≡ start_text book.now.state row.now) }
+    ensures kept { IsStartOf book.now.state kept.new start.new.items }
 {
-    let mut line = Vec::with_capacity(alloc, 160)?;
-    push_start(&mut line, book, row)?;
-    push_end(&mut line, book, row)?;
-    Ok(line)
+    if let Some(last) = *kept {
+        if has_same_start(&last, row) {
+            return Ok(());
+        }
+    }
+    *kept = None;
+    start.clear();
+    push_start(start, book, row)?;
+    *kept = Some(*row);
+    Ok(())
+}
+
+// Whether two rows have the same section and service.
+fn has_same_start(last: &InterruptionRow, row: &InterruptionRow) -> bool
+    ensures section { result ≡ true → last.now.section ≡ row.now.section }
+    ensures feeder { result ≡ true → last.now.feeder ≡ row.now.feeder }
+    ensures customers { result ≡ true → last.now.customers ≡ row.now.customers }
+    ensures since { result ≡ true → last.now.service_since ≡ row.now.service_since }
+    ensures until { result ≡ true → last.now.service_until ≡ row.now.service_until }
+{
+    last.section == row.section
+        && last.feeder == row.feeder
+        && last.customers == row.customers
+        && last.service_since == row.service_since
+        && last.service_until == row.service_until
 }
 
 // Appends the fields up to the end of service, with a comma behind each.
@@ -54,6 +130,7 @@ fn push_start<T: Timeline>(
 // Appends the fields from the first second on, and LF.
 fn push_end<T: Timeline>(
     line: &mut Vec<u8>,
+    known: &mut Vec<Known>,
     book: &Book<T>,
     row: &InterruptionRow,
 ) -> Result<(), AllocError>
@@ -61,9 +138,9 @@ fn push_end<T: Timeline>(
         ++ 44 ∷ moment_text row.now.until ++ 44 ∷ cause_field book.now.state row.now.cause
         ++ 44 ∷ optional decimal row.now.entry ++ 44 ∷ mark_word row.now.marked ++ 10 ∷ []) }
 {
-    push_second(line, row.since)?;
+    push_known(line, known, row.since)?;
     line.push(b',')?;
-    push_second(line, row.until)?;
+    push_known(line, known, row.until)?;
     line.push(b',')?;
     push_cause(line, book, row.cause)?;
     line.push(b',')?;

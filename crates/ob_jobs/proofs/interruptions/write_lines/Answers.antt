@@ -1,20 +1,25 @@
-use Rattle.std.proofs.Common.{◌≡◌, length, subst₂, rules}
+use Rattle.std.proofs.Common.{◌≡◌, ◌∙◌, length, subst₂, rules}
+use Rattle.std.proofs.lemmas.Result.{err_from_is_err_and}
 use Rattle.ob_stream.specs.Watching.{watched_bytes}
 use Rattle.ob_rows.specs.Rows.{interruption_rows}
 use Rattle.ob_rows.specs.RowText.{row_lines}
 use Rattle.ob_jobs.specs.Rows.{WritesRows}
-use Rattle.ob_jobs.proofs.RowsWritten.{name_after, written}
+use Rattle.ob_jobs.proofs.RowsWritten.{no_room}
 use Rattle.ob_jobs.proofs.interruptions.write_lines.Goals as goal
+
+pub returns-in_err-gathered : goal.returns-in_err-gathered
+returns-in_err-gathered g c =
+    let p = err_from_is_err_and c.from_residual.result c.from_residual.ensures.1 in
+    let rows = interruption_rows c.args.book.now.state in
+    rw (p.1, p.2)
+    (no_room g.F.Write.contents c.args.file.now (row_lines c.args.book.now.state rows) (length rows) c.in_err-gathered.field-0.0 c.in_err-gathered.ensures.memory)
 
 pub returns : goal.returns
 returns g c =
     let b = c.args.book.now.state in
     let rows = interruption_rows b in
-    let was = c.new-lines.result in
-    let end = c.each_row.new.sink in
-    let handed = c.each_row.ensures.hands in
-    let name = name_after g.F.Write.contents was end rows c.each_row.result handed in
+    let end = c.write_rows.new.self in
+    let name = c.write_rows.ensures.same_reference in
     let same : end.writer.now ≡ c.file-1.given.0 = search rules in
-    subst₂ (λ v w. WritesRows g.F.Write.contents (watched_bytes g.F.Write.contents v) w (row_lines b rows) (length rows) c.each_row.result)
-    c.new-lines.ensures.writer same
-    (written g.F.Write.contents b was end rows c.each_row.result c.new-lines.ensures.book handed)
+    subst₂ (λ v w. WritesRows g.F.Write.contents (watched_bytes g.F.Write.contents v) w (row_lines b rows) (length rows) c.write_rows.result)
+    c.new-lines.ensures.writer same c.write_rows.ensures.rows

@@ -1,9 +1,9 @@
-use Rattle.std.proofs.Common.{◌≡◌, ◌++◌, ◌∙◌, ap, sym, subst, pos, OnOk, arith, rules}
+use Rattle.std.proofs.Common.{◌≡◌, ◌∙◌, ap, sym, pos, arith, rules}
 use Rattle.jiff_core.specs.Date.{epoch_day}
 use Rattle.jiff_core.proofs.SignedLemmas.{signed_arith}
-use Rattle.ob_time.specs.Dates.{day_text, ymd_text}
+use Rattle.ob_time.specs.Dates.{day_text}
 use Rattle.ob_rows.proofs.Dates.{day_text-is, no_year_below_zero}
-use Rattle.ob_rows.proofs.moment.push_date.Goals as goal
+use Rattle.ob_rows.proofs.moment.date_of.Goals as goal
 
 pub year_of-requires : goal.year_of-requires
 year_of-requires c =
@@ -15,6 +15,4 @@ pub returns : goal.returns
 returns c =
     let d = c.unwrap-date.result in
     let is : epoch_day d ≡ pos c.args.day = search rules in
-    let same : ymd_text c.year_of.result d.month d.day ≡ day_text (pos c.args.day) =
-    sym (day_text-is d c.year_of.result c.year_of.ensures) ∙ ap day_text is in
-    subst (λ t. OnOk c.push_numbers.result (c.push_numbers.new.text.items ≡ c.args.text.now.items ++ t)) same c.push_numbers.ensures
+    c.ymd_of.ensures ∙ sym (day_text-is d c.year_of.result c.year_of.ensures) ∙ ap day_text is
