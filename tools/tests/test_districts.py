@@ -162,6 +162,28 @@ class Cutting(unittest.TestCase):
         )
         self.assertEqual(after["NEW"], after["BUS-1"])
 
+    def test_what_an_earlier_cut_does_not_know_goes_where_it_hangs(self) -> None:
+        """A spare transformer behind open devices, and what hangs on it alone: by ties, not by the order of districts."""
+        folder = many_books.folder() / "spare"
+        folder.mkdir()
+        rows = ["type,name,feeder,from,to,normal", "section,SPARE,3,,,", "section,BEHIND,3,,,", "section,ALONE,3,,,"]
+        rows += [
+            "section,HARBOR,1,,,",
+            "section,MILL,2,,,",
+            "device,CB-H,,GRID,HARBOR,closed",
+            "device,CB-M,,GRID,MILL,closed",
+        ]
+        rows += ["device,A,,MILL,SPARE,open", "device,B,,MILL,SPARE,open", "device,C,,HARBOR,SPARE,open"]
+        rows += ["device,D,,SPARE,BEHIND,open"]
+        (folder / "gis.csv").write_text("\n".join(rows))
+        (folder / "earlier.csv").write_text("node,district\nHARBOR,harbor\nMILL,mill\n")
+        words = ["--as", folder / "earlier.csv", "-o", folder / "cut"]
+        done = run("districts", "cut", folder / "gis.csv", *words)
+        self.assertEqual((done.returncode, done.stderr), (0, ""))
+        made = {row["node"]: row["district"] for row in read(folder / "cut" / "districts.csv")}
+        mill = {"MILL": "mill", "SPARE": "mill", "BEHIND": "mill"}
+        self.assertEqual(made, {"HARBOR": "harbor", **mill, "ALONE": "harbor"})
+
     def test_areas_that_are_joined_since_are_refused(self) -> None:
         exports = Exports(10)
         folder = exports.write("joined")
