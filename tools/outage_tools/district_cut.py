@@ -6,7 +6,7 @@ from dataclasses import dataclass, field
 from pathlib import Path
 from typing import Any
 
-from outage_tools.district_files import Export, Row, export_of, read_rows, write_rows, written_to
+from outage_tools.district_files import Export, Form, Row, check_renamed, export_of, read_rows, write_rows, written_to
 from outage_tools.errors import BookError
 from outage_tools.graphs import graph_of, networkx
 from outage_tools.oms.files import DELIMITERS
@@ -460,10 +460,11 @@ def write_cut(exports: Exports, network: Network, cut: Cut, folder: Path) -> Non
 
 def cut(args: Any) -> None:
     """The job `cut`: tells each district's size and the ties that were cut."""
-    form = args.encoding, DELIMITERS.get(args.delimiter)
-    gis = export_of(args.gis, GIS_COLUMNS, *form)
-    customers = export_of(args.customers, ("customer", "section"), *form) if args.customers else None
-    oms = export_of(args.oms, ("device",), *form) if args.oms else None
+    form = Form(args.encoding, DELIMITERS.get(args.delimiter), tuple(args.renamed))
+    gis = export_of(args.gis, GIS_COLUMNS, form)
+    customers = export_of(args.customers, ("customer", "section"), form) if args.customers else None
+    oms = export_of(args.oms, ("device",), form) if args.oms else None
+    check_renamed([gis, customers, oms], form)
     earlier = read_rows(args.earlier, ("node", "district")) if args.earlier else []
     network = read_network(gis, customers)
     if oms:

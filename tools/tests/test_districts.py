@@ -263,23 +263,34 @@ class Cutting(unittest.TestCase):
         self.assertIn("hasn't the column type", done.stderr)
 
     def test_exports_as_other_programs_write_them(self) -> None:
-        """Semicolons, an older encoding, names of columns in capitals: cut as the plain ones are, into UTF-8 and commas."""
+        """Semicolons, an older encoding, names of columns in capitals or their own: cut as the plain ones are, into UTF-8 and
+        commas."""
+        own = {"SECTION": "LINE", "DEVICE": "SWITCH NO", "FEEDER": "CIRCUIT"}
         exports = Exports(3)
         plain, other = exports.write("plain"), exports.write("other")
         for name in ("gis.csv", "customers.csv", "oms.csv"):
             head, *rows = (plain / name).read_text().replace("substation", "sous-station \u00e9").splitlines()
             (plain / name).write_text("\n".join([head, *rows]), encoding="utf-8")
-            text = "\n".join(["", head.upper(), *rows]).replace(",", ";")
+            names = ",".join(own.get(column, column) for column in head.upper().split(","))
+            text = "\n".join(["", names, *rows]).replace(",", ";")
             (other / name).write_text(text, encoding="cp1252")
-        for folder, words in ((plain, list[str]()), (other, ["--encoding", "cp1252"])):
+        renamed = [word for ours, theirs in own.items() for word in ("--column", f"{theirs.title()}={ours.lower()}")]
+        for folder, words in ((plain, list[str]()), (other, ["--encoding", "cp1252", *renamed])):
             done = cut(folder, "--room", "90", *words)
             self.assertEqual((done.returncode, done.stderr), (0, ""))
         made = sorted(path.relative_to(plain) for path in (plain / "cut").rglob("*.csv"))
         self.assertGreater(len(made), 9)
         for path in made:
             first, _, rest = (other / path).read_text(encoding="utf-8").partition("\n")
+            if path.parts[1] not in ("districts.csv", "feeders.csv", "ties.csv"):
+                first = ",".join(
+                    {theirs: ours for ours, theirs in own.items()}.get(each, each) for each in first.split(",")
+                )
             self.assertEqual(f"{first.lower()}\n{rest}", (plain / path).read_text(encoding="utf-8"))
-        done = cut(other, "--room", "90")
+        done = cut(other, "--encoding", "cp1252", *renamed, "--column", "Switch=device")
+        self.assertEqual(done.returncode, 1)
+        self.assertIn("no file has a column 'switch' that --column names as device", done.stderr)
+        done = cut(other, "--room", "90", *renamed)
         self.assertEqual(done.returncode, 1)
         self.assertRegex(done.stderr, "gis.csv: row [0-9]+: it has bytes that aren't of the encoding utf-8")
 
