@@ -1,5 +1,6 @@
 """Books that are compared with the model one after another, or several at once, up to the first difference."""
 
+import sys
 from collections import Counter
 from collections.abc import Callable, Iterable, Iterator, Sequence
 from concurrent.futures import ProcessPoolExecutor
@@ -8,6 +9,7 @@ from dataclasses import dataclass
 from over_program import ROOT, Difference
 
 DATA = ROOT / "bench-data"
+PROGRESS = 100  # books between two lines on standard error
 
 Checked = tuple[Difference | None, Counter[str]]
 
@@ -40,11 +42,13 @@ def compare(what: str, cases: Iterable[Case], processes: int = 1) -> int:
     """Compares books, and prints how many there are of what, or the first that differs; answers the status to end with."""
     every = [*cases]
     compared: Counter[str] = Counter()
-    for case, (found, counts) in zip(every, each_checked(every, processes)):
+    for number, (case, (found, counts)) in enumerate(zip(every, each_checked(every, processes)), 1):
         if found:
             tell_difference(case, found)
             return 1
         compared += counts
+        if number % PROGRESS == 0:
+            print(f"{number:,} of {len(every):,} {what}", file=sys.stderr, flush=True)
     parts = " and ".join(f"{count:,} {name}" for name, count in compared.items())
     print(f"{len(every):,} {what} are those of the model{', with ' + parts if parts else ''}", flush=True)
     return 0
