@@ -123,8 +123,9 @@ def before_proofs(root: Path) -> list[Suite]:
     """What wants no program, and takes seconds."""
     found = [Suite("black", ("black", "--check", "."), as_one), *typed(root)]
     found.append(Suite("tests of ci/", tests_in("ci/tests", "ci/tests"), by_tests))
-    found.append(Suite("oracle's tests", (sys.executable, "oracle/test_model.py", "-v"), by_tests))
+    found.append(Suite("oracle's tests", tests_in("oracle", "oracle"), by_tests))
     found.append(Suite("edits apply", (sys.executable, "ci/edits.py", "apply"), as_one))
+    found.append(Suite("patterns", (sys.executable, "ci/patterns.py"), as_one))
     found.append(Suite("links, lines, blocks", (sys.executable, "tests/check_pages.py"), as_one))
     found.append(Suite("made years", (sys.executable, "tests/test_made_years.py", "-v"), by_tests))
     return found

@@ -8,6 +8,7 @@ show, once they are migrated, what that program printed.
 
 import sqlite3
 import tempfile
+from collections import Counter
 from contextlib import closing
 from pathlib import Path
 
@@ -70,7 +71,7 @@ def migrated(book: OneBook, is_done: bool) -> Difference | None:
     return first_of(wanted, found)
 
 
-def difference(program: str | Path, period: PeriodWords, data: bytes) -> Difference | None:
+def difference(program: str | Path, period: PeriodWords, data: bytes, counts: Counter[str]) -> Difference | None:
     """The first job or table in which a text's book, made one of version 1, and the model differ."""
     book = Book(Period(*period))
     book.import_text(data)
@@ -82,6 +83,7 @@ def difference(program: str | Path, period: PeriodWords, data: bytes) -> Differe
         with closing(sqlite3.connect(over.book)) as database:
             database.executescript(TO_VERSION_1)
         is_done = was_old(book)
+        counts["migrations" if is_done else "refused migrations"] += 1
         if found := migrated(over, is_done):
             return found
         table = first_difference(book, over.book) if is_done else None
@@ -99,12 +101,15 @@ def book_of_file(sql: Path, period: PeriodWords) -> Book:
     return book
 
 
-def old_file_difference(program: str | Path, sql: Path, name: str, period: PeriodWords) -> Difference | None:
+def old_file_difference(
+    program: str | Path, sql: Path, name: str, period: PeriodWords, counts: Counter[str]
+) -> Difference | None:
     """The first in which a file of the program of version 1, once it is migrated, isn't what that program printed."""
     with tempfile.TemporaryDirectory() as folder:
         over = OneBook(program, folder)
         with closing(sqlite3.connect(over.book)) as database:
             database.executescript(sql.read_text("ascii"))
+        counts["migrations"] += 1
         if found := migrated(over, True):
             return found
         table: Said = (sql.with_name(f"{name}.table.txt").read_text("ascii"), "", 0)

@@ -92,8 +92,8 @@ def wanted_of(book: Book, requests: Sequence[Request]) -> bytes:
 def count(counts: Counter[str], requests: Sequence[Request]) -> None:
     """Counts the plans and the questions about the supply at a second among requests."""
     for request in requests:
-        counts["plans"] += request.target == "/plan"
-        counts["supplies"] += request.target.startswith("/supply/")
+        counts["plans of commands"] += request.target == "/plan"
+        counts["questions about the supply"] += request.target.startswith("/supply/")
 
 
 def difference(program: str | Path, seed: int, counts: Counter[str]) -> Difference | None:

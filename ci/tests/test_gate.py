@@ -209,6 +209,8 @@ class Suites(Whole):
 
     def test_no_tests_at_all(self) -> None:
         self.made.write("oracle/test_model.py", "")
+        self.fails("after 0 tests")
+        self.made.write("tests/test_made_years.py", "")
         self.fails("no end of tests is told")
 
     def test_package_that_is_missing(self) -> None:

@@ -5,7 +5,8 @@ from dataclasses import dataclass
 from html import escape
 
 MOST_WIDTH = 40  # of a column
-LETTER, GAP = 8, 12  # of labels below an axis: the width of a letter at most, and what is free between two
+LETTER, GAP = 8, 12  # of labels: the width of a letter at most, and what is free between two
+LINE, LEAST_BAR = 24, 380  # of bars below each other: how high each is with its label, and the room of the longest
 
 
 @dataclass(frozen=True)
@@ -157,6 +158,25 @@ def bars_below(bars: Sequence[Bar], caption: str) -> str:
         for bar in bars
     ]
     return f'<ul class="bars" aria-label="{escape(caption)}">\n{chr(10).join(rows)}\n</ul>'
+
+
+def lines_of_bars(bars: Sequence[Bar], caption: str) -> str:
+    """Bars below each other as one picture: before each its label, and behind it the words of its title behind the last
+    colon."""
+    words = [bar.title.rpartition(": ")[2] for bar in bars]
+    left = GAP + LETTER * max([len(bar.label) for bar in bars], default=0)
+    right = GAP + LETTER * max(map(len, words), default=0)
+    size = Size(left + LEAST_BAR + right, LINE * len(bars) + GAP, left, right, GAP, 0, has_titles=False)
+    most = max([bar.value for bar in bars], default=0) or 1.0
+    parts = [svg_begin(size, caption)]
+    for place, (bar, said) in enumerate(zip(bars, words)):
+        top, width = size.top + LINE * place, size.inner_width * bar.value / most
+        foot = top + LINE / 2
+        kind = "apart" if bar.is_apart else "bar"
+        parts.append(f'<text class="tick" x="{left - GAP}" y="{foot}" text-anchor="end">{escape(bar.label)}</text>')
+        parts.append(f'<rect class="{kind}" x="{left}" y="{top}" width="{width:.2f}" height="{LINE - GAP / 2}"/>')
+        parts.append(f'<text class="tick" x="{left + width + GAP / 2:.1f}" y="{foot}">{escape(said)}</text>')
+    return "\n".join([*parts, "</svg>"])
 
 
 def svg_begin(size: Size, caption: str) -> str:

@@ -22,7 +22,7 @@ from pathlib import Path
 from typing import Any, Generic, TypeVar
 
 from outage_tools.copies import copy_of, log_of
-from outage_tools.errors import BookError
+from outage_tools.errors import BookError, lacks
 from outage_tools.versions import tools_sum
 
 Result = TypeVar("Result")
@@ -130,7 +130,7 @@ def new_client(address: str) -> Any:
     try:
         import distributed
     except ImportError:
-        raise BookError("--cluster needs python3-distributed, which isn't installed") from None
+        raise lacks("a cluster is used", "python3-distributed") from None
     for name in ("distributed", "distributed.client", "asyncio", "tornado"):  # what is lost is asked for again
         logging.getLogger(name).setLevel(logging.CRITICAL)
     warnings.filterwarnings("ignore", message="Large object")  # a book that is sent

@@ -6,7 +6,7 @@ from dataclasses import dataclass, field
 from pathlib import Path
 from typing import Any
 
-from outage_tools.district_files import Export, Row, export_of, read_rows, write_rows, written_to
+from outage_tools.district_files import Export, Form, Row, check_renamed, export_of, read_rows, write_rows, written_to
 from outage_tools.errors import BookError
 from outage_tools.graphs import graph_of, networkx
 from outage_tools.oms.files import DELIMITERS
@@ -255,6 +255,7 @@ def cut_areas(network: Network, areas: Sequence[Area], old: dict[str, str], room
         if kept.size.passes(100):
             raise BookError(f"{name} has outgrown a book: {', '.join(kept.size.passes(100))}")
     ties = ties_between(network, areas)
+    waiting = follow_ties(cut, waiting, ties, room)
     for kept in cut.districts.values():
         waiting = fill(kept, waiting, ties, room)
     number = 0
@@ -285,6 +286,32 @@ def ties_between(network: Network, areas: Sequence[Area]) -> Ties:
     return found
 
 
+def follow_ties(cut: Cut, waiting: Sequence[Area], ties: Ties, room: int) -> list[Area]:
+    """Puts areas that an earlier cut doesn't know where they hang, those with most ties to a district first: the others."""
+    rest = list(waiting)
+    while True:
+        name_of = {area.nodes[0]: name for name, each in cut.districts.items() for area in each.areas}
+        joined = []  # the ties of an area to a district that has room for it
+        for area in rest:
+            counts: Counter[str] = Counter()
+            for other, count in ties[area.nodes[0]].items():
+                if other in name_of:
+                    counts[name_of[other]] += count
+            joined += [
+                (count, area, name) for name, count in counts.items() if has_room(cut.districts[name], area, room)
+            ]
+        if not joined:
+            return rest
+        _, best, name = max(joined, key=lambda each: each[0])
+        cut.districts[name].add(best)
+        rest.remove(best)
+
+
+def has_room(district: District, area: Area, room: int) -> bool:
+    """Whether a district with an area would keep so many per cent of each bound free."""
+    return not district.size_with(area).passes(100 - room)
+
+
 def fill(district: District, waiting: Sequence[Area], ties: Ties, room: int) -> list[Area]:
     """Takes areas that wait into a district while they fit, those with most ties to it first: the others."""
     joined: dict[str, int] = defaultdict(int)  # ties to the district, by the first node of an area
@@ -297,7 +324,7 @@ def fill(district: District, waiting: Sequence[Area], ties: Ties, room: int) -> 
         # what doesn't fit now won't fit later
         fitting = [
             area for area in fitting
-            if area.nodes[0] not in taken and not district.size_with(area).passes(100 - room)
+            if area.nodes[0] not in taken and has_room(district, area, room)
         ]  # fmt: skip
         if not fitting:
             return [area for area in waiting if area.nodes[0] not in taken]
@@ -433,10 +460,11 @@ def write_cut(exports: Exports, network: Network, cut: Cut, folder: Path) -> Non
 
 def cut(args: Any) -> None:
     """The job `cut`: tells each district's size and the ties that were cut."""
-    form = args.encoding, DELIMITERS.get(args.delimiter)
-    gis = export_of(args.gis, GIS_COLUMNS, *form)
-    customers = export_of(args.customers, ("customer", "section"), *form) if args.customers else None
-    oms = export_of(args.oms, ("device",), *form) if args.oms else None
+    form = Form(args.encoding, DELIMITERS.get(args.delimiter), tuple(args.renamed))
+    gis = export_of(args.gis, GIS_COLUMNS, form)
+    customers = export_of(args.customers, ("customer", "section"), form) if args.customers else None
+    oms = export_of(args.oms, ("device",), form) if args.oms else None
+    check_renamed([gis, customers, oms], form)
     earlier = read_rows(args.earlier, ("node", "district")) if args.earlier else []
     network = read_network(gis, customers)
     if oms:

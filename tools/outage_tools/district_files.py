@@ -64,14 +64,23 @@ def not_of(encoding: str) -> str:
     return f"it has bytes that aren't of the encoding {encoding} (--encoding names another)"
 
 
-def export_of(path: str, needed: Sequence[str], encoding: str | None = None, delimiter: str | None = None) -> Export:
+@dataclass(frozen=True)
+class Form:
+    """How exports are written; where nothing is said it is found."""
+
+    encoding: str | None = None
+    delimiter: str | None = None
+    renamed: tuple[tuple[str, str], ...] = ()  # a column's name in the files, and the column for which it stands
+
+
+def export_of(path: str, needed: Sequence[str], form: Form = Form()) -> Export:
     """An export by its line of column names, in any order and any letters; those that are needed have to be there, once."""
-    with open_lines(path, encoding) as (used, lines):
+    with open_lines(path, form.encoding) as (used, lines):
         first = next(dropwhile(is_blank, lines), "")
     found = {each: tuple(next(csv.reader([first], delimiter=each), ())) for each in DELIMITERS.values()}
-    chosen = delimiter or max(found, key=lambda each: len(set(columns_of(found[each])) & set(needed)))
+    chosen = form.delimiter or max(found, key=lambda each: len({*columns_of(found[each], form.renamed)} & {*needed}))
     header = found[chosen]
-    columns = columns_of(header)
+    columns = columns_of(header, form.renamed)
     if any(UNREADABLE in name for name in header):
         raise BookError(f"{path}: {not_of(used)}")
     for name in needed:
@@ -79,11 +88,23 @@ def export_of(path: str, needed: Sequence[str], encoding: str | None = None, del
             raise BookError(
                 f"{path} {'has two columns' if name in columns else 'hasn' + chr(39) + 't the column'} {name}"
             )
-    return Export(path, encoding, chosen, header, columns)
+    return Export(path, form.encoding, chosen, header, columns)
 
 
-def columns_of(header: Sequence[str]) -> tuple[str, ...]:
-    return tuple(name.strip().lower() for name in header)
+def columns_of(header: Sequence[str], renamed: Sequence[tuple[str, str]] = ()) -> tuple[str, ...]:
+    """The names of the columns in small letters, or of those for which they stand; a file's own column of a name comes first."""
+    own = tuple(name.strip().lower() for name in header)
+    stands_for = {theirs: ours for theirs, ours in renamed if ours not in own}
+    return tuple(stands_for.get(name, name) for name in own)
+
+
+def check_renamed(exports: Sequence[Export | None], form: Form) -> None:
+    """Refuses a column's name that no file has, unless it may be for a file that isn't given."""
+    given = [export for export in exports if export]
+    found = {name for export in given for name in columns_of(export.header)}
+    for theirs, ours in form.renamed:
+        if theirs not in found and len(given) == len(exports):
+            raise BookError(f"no file has a column {theirs!r} that --column names as {ours}")
 
 
 def read_rows(path: str, needed: Sequence[str]) -> list[Row]:

@@ -22,7 +22,7 @@ from outage_tools.district_check import check
 from outage_tools.district_cut import ROOM, cut
 from outage_tools.district_desks import compare_desks, tell_desks
 from outage_tools.oms.decoding import ENCODINGS
-from outage_tools.oms.files import DELIMITERS
+from outage_tools.oms.files import DELIMITERS, add_column_argument
 from outage_tools.parallel import add_spread_arguments
 
 
@@ -50,6 +50,7 @@ def arguments() -> tuple[Parser, Any]:
     cutting.add_argument(
         "--encoding", choices=ENCODINGS, help="of files without a mark of it at their beginning (utf-8)"
     )
+    add_column_argument(cutting)
     checking = job("check", "prints what the ties cost that were cut")
     checking.add_argument("ties", metavar="TIES", help="ties.csv of the cut")
     checking.add_argument("books", nargs="+", metavar="BOOK", help="the books' files; a file's name is its district's")

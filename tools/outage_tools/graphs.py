@@ -4,7 +4,7 @@ from collections import defaultdict
 from collections.abc import Hashable, Iterable, Iterator
 from typing import Any, TypeAlias, TypeVar
 
-from outage_tools.errors import BookError
+from outage_tools.errors import lacks
 
 Graph: TypeAlias = Any  # of networkx, which has no types
 Node = TypeVar("Node", bound=Hashable)
@@ -18,9 +18,7 @@ def networkx() -> Any:
     try:
         import networkx as found
     except ImportError:
-        raise BookError(
-            "networks are looked at by networkx, which this Python hasn't; as root: apt-get install python3-networkx"
-        ) from None
+        raise lacks("networks are looked at", "python3-networkx") from None
     return found
 
 

@@ -3,7 +3,7 @@
 from collections.abc import Sequence
 from html import escape
 
-from outage_tools import charts, figures, report
+from outage_tools import charts, figures, indices, report
 from outage_tools.counts import SETS, decimal_text, quotient, quotient_text
 from outage_tools.daily import ListedYear
 from outage_tools.report import Column, TableRow
@@ -92,12 +92,16 @@ def tiles(sums: Sums) -> str:
 
 
 def index_part(sums: Sums) -> str:
-    """Both sets of the fifteen quotients."""
+    """Both sets of the fifteen quotients, and of the indices that no annual table has."""
+    further = {name: sums.further_indices(name) for name in SETS}
     return f"""
 <h2>Indices of all districts {report.COMPUTED}</h2>
 <p>Three decimals, and behind them the exact fraction in lowest terms; of ASAI five decimals. {said_of_marks(sums)} By IEEE Std
 1366-2012; an interruption of more than 300 seconds is sustained. {figures.TERMS}</p>
-{report.index_table(figures_of_sums(sums), bool(sums.marked_in))}"""
+{report.index_table(figures_of_sums(sums), bool(sums.marked_in))}
+<h3>Further indices {report.COMPUTED}</h3>
+<p>{indices.TERMS}</p>
+{report.further_table(further, bool(sums.marked_in))}"""
 
 
 def said_of_marks(sums: Sums) -> str:

@@ -26,7 +26,7 @@ from outage_tools.compare import Checked, figures_of_table, open_book
 from outage_tools.copies import copy_of
 from outage_tools.counts import SETS
 from outage_tools.days import unmarked_seconds
-from outage_tools.errors import BookError, Differs
+from outage_tools.errors import BookError, Differs, lacks
 from outage_tools.interruptions import joined
 from outage_tools.parallel import add_spread_arguments, over_books
 from outage_tools.rows import CAUSE, DAY, FEEDER, Book
@@ -48,7 +48,7 @@ def connected(dsn: str) -> Connection:
     try:
         import psycopg
     except ImportError:
-        raise BookError("PostgreSQL is read by python3-psycopg, which isn't installed") from None
+        raise lacks("PostgreSQL is read", "python3-psycopg") from None
     try:
         return psycopg.connect(dsn)
     except psycopg.Error as error:

@@ -4,7 +4,15 @@ import os
 import subprocess
 import sys
 import unittest
+from collections.abc import Callable
+from unittest import mock
 
+from outage_tools.cluster import new_client
+from outage_tools.errors import BookError
+from outage_tools.graphs import networkx
+from outage_tools.sections.cim import graph_of
+from outage_tools.warehouse import connected
+from outage_tools.workbook.writing import xlsxwriter_module
 from tests import support
 from tests.exports import PERIOD, arguments_of
 
@@ -59,3 +67,22 @@ class Order(unittest.TestCase):
         self.assertEqual(both_of(job_of("print('rows')", "print_error('note')", "print('more')"), False), (0, "note\n"))
         raising = job_of(errors, "print('rows')", "raise BookError('none')")
         self.assertEqual(both_of(raising, False), (1, "error: none\n"))
+
+
+class Packages(unittest.TestCase):
+    def test_a_package_of_another_python(self) -> None:
+        """A package that this Python hasn't may be installed for Debian's: both are named."""
+        calls: dict[str, tuple[str, Callable[[], object]]] = {
+            "networkx": ("python3-networkx", networkx),
+            "rdflib": ("python3-rdflib", lambda: graph_of("none.xml")),
+            "psycopg": ("python3-psycopg", lambda: connected("")),
+            "xlsxwriter": ("python3-xlsxwriter", xlsxwriter_module),
+            "distributed": ("python3-distributed", lambda: new_client("tcp://127.0.0.1:1")),
+        }
+        for module, (package, call) in calls.items():
+            way = "install it, or run the tool by /usr/bin/python3"
+            with mock.patch.dict(sys.modules, {module: None}), self.assertRaises(BookError) as raised:
+                call()
+            self.assertTrue(
+                str(raised.exception).endswith(f" by Debian's {package}, which {sys.executable} doesn't have: {way}")
+            )

@@ -162,6 +162,28 @@ class Cutting(unittest.TestCase):
         )
         self.assertEqual(after["NEW"], after["BUS-1"])
 
+    def test_what_an_earlier_cut_does_not_know_goes_where_it_hangs(self) -> None:
+        """A spare transformer behind open devices, and what hangs on it alone: by ties, not by the order of districts."""
+        folder = many_books.folder() / "spare"
+        folder.mkdir()
+        rows = ["type,name,feeder,from,to,normal", "section,SPARE,3,,,", "section,BEHIND,3,,,", "section,ALONE,3,,,"]
+        rows += [
+            "section,HARBOR,1,,,",
+            "section,MILL,2,,,",
+            "device,CB-H,,GRID,HARBOR,closed",
+            "device,CB-M,,GRID,MILL,closed",
+        ]
+        rows += ["device,A,,MILL,SPARE,open", "device,B,,MILL,SPARE,open", "device,C,,HARBOR,SPARE,open"]
+        rows += ["device,D,,SPARE,BEHIND,open"]
+        (folder / "gis.csv").write_text("\n".join(rows))
+        (folder / "earlier.csv").write_text("node,district\nHARBOR,harbor\nMILL,mill\n")
+        words = ["--as", folder / "earlier.csv", "-o", folder / "cut"]
+        done = run("districts", "cut", folder / "gis.csv", *words)
+        self.assertEqual((done.returncode, done.stderr), (0, ""))
+        made = {row["node"]: row["district"] for row in read(folder / "cut" / "districts.csv")}
+        mill = {"MILL": "mill", "SPARE": "mill", "BEHIND": "mill"}
+        self.assertEqual(made, {"HARBOR": "harbor", **mill, "ALONE": "harbor"})
+
     def test_areas_that_are_joined_since_are_refused(self) -> None:
         exports = Exports(10)
         folder = exports.write("joined")
@@ -241,23 +263,34 @@ class Cutting(unittest.TestCase):
         self.assertIn("hasn't the column type", done.stderr)
 
     def test_exports_as_other_programs_write_them(self) -> None:
-        """Semicolons, an older encoding, names of columns in capitals: cut as the plain ones are, into UTF-8 and commas."""
+        """Semicolons, an older encoding, names of columns in capitals or their own: cut as the plain ones are, into UTF-8 and
+        commas."""
+        own = {"SECTION": "LINE", "DEVICE": "SWITCH NO", "FEEDER": "CIRCUIT"}
         exports = Exports(3)
         plain, other = exports.write("plain"), exports.write("other")
         for name in ("gis.csv", "customers.csv", "oms.csv"):
             head, *rows = (plain / name).read_text().replace("substation", "sous-station \u00e9").splitlines()
             (plain / name).write_text("\n".join([head, *rows]), encoding="utf-8")
-            text = "\n".join(["", head.upper(), *rows]).replace(",", ";")
+            names = ",".join(own.get(column, column) for column in head.upper().split(","))
+            text = "\n".join(["", names, *rows]).replace(",", ";")
             (other / name).write_text(text, encoding="cp1252")
-        for folder, words in ((plain, list[str]()), (other, ["--encoding", "cp1252"])):
+        renamed = [word for ours, theirs in own.items() for word in ("--column", f"{theirs.title()}={ours.lower()}")]
+        for folder, words in ((plain, list[str]()), (other, ["--encoding", "cp1252", *renamed])):
             done = cut(folder, "--room", "90", *words)
             self.assertEqual((done.returncode, done.stderr), (0, ""))
         made = sorted(path.relative_to(plain) for path in (plain / "cut").rglob("*.csv"))
         self.assertGreater(len(made), 9)
         for path in made:
             first, _, rest = (other / path).read_text(encoding="utf-8").partition("\n")
+            if path.parts[1] not in ("districts.csv", "feeders.csv", "ties.csv"):
+                first = ",".join(
+                    {theirs: ours for ours, theirs in own.items()}.get(each, each) for each in first.split(",")
+                )
             self.assertEqual(f"{first.lower()}\n{rest}", (plain / path).read_text(encoding="utf-8"))
-        done = cut(other, "--room", "90")
+        done = cut(other, "--encoding", "cp1252", *renamed, "--column", "Switch=device")
+        self.assertEqual(done.returncode, 1)
+        self.assertIn("no file has a column 'switch' that --column names as device", done.stderr)
+        done = cut(other, "--room", "90", *renamed)
         self.assertEqual(done.returncode, 1)
         self.assertRegex(done.stderr, "gis.csv: row [0-9]+: it has bytes that aren't of the encoding utf-8")
 

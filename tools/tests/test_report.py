@@ -9,7 +9,9 @@ from dataclasses import replace
 from html.parser import HTMLParser
 from pathlib import Path
 from typing import Any
+from xml.etree import ElementTree
 
+from outage_tools.charts import LETTER
 from outage_tools.counts import decimal_text
 from outage_tools.errors import BookError
 from outage_tools.events import read_rule
@@ -17,6 +19,7 @@ from outage_tools.lists import read_cause_groups, read_names, read_section_group
 from outage_tools.pack.shown import compare_shown, report_shows, words_of_table
 from outage_tools.report import Asked, page
 from outage_tools.report.exact import value_text
+from outage_tools.report.page import pictures_of, write_pictures
 from outage_tools.report.style import css_string
 from tests import support
 from tests.browser import chromium, needs_browser, printed_pages
@@ -24,6 +27,18 @@ from tests.support import text_of
 from tests.test_user_lists import TOWNS
 
 Attributes = list[tuple[str, str | None]]
+
+SVG = "{http://www.w3.org/2000/svg}"
+BY_CAUSE = {  # customers times seconds of the fortnight, by hand
+    "STORM": 2 * 31_500 + 14 * 6_300,
+    "TREE": 13 * 1_880 + 5 * 11_390,
+    "ANIMAL": 13 * 40,
+    "DIGGING": 2 * 2_190,
+    "EQUIPMENT": 3 * 4_500 + 3 * 2_400,
+    "PLANNED": 8 * 9_000 + 3 * 240,
+    "SUPPLIER": 15 * 680,
+    "UNKNOWN": 8 * 3_120,
+}
 
 
 class Tags(HTMLParser):
@@ -116,6 +131,36 @@ class Page(unittest.TestCase):
         self.assertEqual(value_text("ASAI", "undefined"), "undefined")
         self.assertEqual(value_text("ASAI", "1999999/2000000 1.000"), "1.00000")
         self.assertEqual(decimal_text(None, 5), "")
+
+    def test_pictures_for_slides(self) -> None:
+        """Each is a file of its own, also where there is nothing to show; what it says lies within it, and is the page's."""
+        for made in support.books()[:9]:
+            for name, text in pictures_of(support.opened(made), {}).items():
+                drawing = ElementTree.fromstring(text)
+                width = float(drawing.attrib["viewBox"].split()[2])
+                for each in drawing.iter(f"{SVG}text"):
+                    if each.get("text-anchor") is None:
+                        self.assertLess(
+                            float(each.attrib["x"]) + LETTER * len(each.text or ""), width + 1, (made.name, name)
+                        )
+        found, names = support.opened(support.fortnight()), asked_whole().names or {}
+        pictures = pictures_of(found, names)
+        self.assertEqual(sorted(pictures), ["causes", "daily-saidi", "days", "feeders", "months"])
+        self.assertEqual(pictures["days"], support.EXAMPLES.joinpath("days.svg").read_text())
+        said = {
+            name: [each.text for each in ElementTree.fromstring(text).iter(f"{SVG}text")]
+            for name, text in pictures.items()
+        }
+        causes = sorted(BY_CAUSE, key=lambda cause: -BY_CAUSE[cause])
+        hours = [f"{BY_CAUSE[cause] / 3_600:.1f} customer-hours" for cause in causes]
+        self.assertEqual([words for words in said["causes"] if "hours" in str(words)], hours)
+        self.assertTrue(all(str(words).startswith(f"{cause} (") for words, cause in zip(said["causes"][::2], causes)))
+        self.assertIn("feeder 1 Mill Lane, Mill", said["feeders"])
+        folder = support.folder() / "pictures/new"
+        write_pictures(str(folder), pictures)
+        self.assertEqual(folder.joinpath("months.svg").read_text(), pictures["months"])
+        with self.assertRaises(BookError):
+            write_pictures(str(folder / "months.svg"), pictures)
 
     def test_the_first_page_is_for_readers_of_four_figures(self) -> None:
         """Minutes with one decimal, SAIFI with two, planned and unplanned apart; CEMI and CELID in per cent."""

@@ -1,6 +1,7 @@
 """Books added up: the sums of the parts of a network are the whole's, line by line; books that don't belong together."""
 
 import json
+import re
 import unittest
 from functools import lru_cache
 from html.parser import HTMLParser
@@ -9,6 +10,7 @@ from pathlib import Path
 from unittest.mock import patch
 
 from outage_tools import parallel
+from outage_tools.counts import fraction_text
 from outage_tools.errors import BookError
 from outage_tools.sums import District, Sums, add_up, read_district, read_districts, table_lines
 from tests import many_books
@@ -195,6 +197,10 @@ class BooksThatDontBelongTogether(unittest.TestCase):
             self.assertIn(part, text)
         self.assertIn('on <span class="whole">2025-04-07</span> from 2 districts&#x27; books of 29 commands', text)
         self.assertIn("in no quotient of the annual table: MI", text)
+        shown = dict(re.findall(r'<strong>([^<]*)</strong></td><td data-set="all">.*?>([^<>]*)</span></td>', text))
+        sums = sums_of(self.of("north", "south"))
+        for index, value in {**sums.indices("all"), **sums.further_indices("all")}.items():
+            self.assertEqual(shown.get(index), fraction_text(value), index)
         self.assertEqual(run("sum", "a.db", "-o", "x.html", "--date", "7.4.2025").returncode, 64)
 
     @needs_browser

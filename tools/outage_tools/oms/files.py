@@ -88,6 +88,11 @@ def add_format_arguments(parser: argparse._ActionsContainer) -> None:
         type=date_format,
         help="another spelling of dates and times, in strptime's directives, as %%d.%%m.%%Y %%H:%%M; may be given several times",
     )
+    add_column_argument(parser)
+
+
+def add_column_argument(parser: argparse._ActionsContainer) -> None:
+    """The word that says what a column is called in the files."""
     parser.add_argument(
         "--column",
         dest="renamed",

@@ -1,12 +1,12 @@
 """The part on feeders: the worst by SAIDI first and set apart, with their ranks of the year before."""
 
-from outage_tools.charts import bars_below
+from outage_tools.charts import Bar, bars_below, lines_of_bars
 from outage_tools.compare import Checked
 from outage_tools.feeders import feeder_rows
 from outage_tools.lists import Names
 from outage_tools.ranking import Ranked, Ranks
 from outage_tools.report.earlier import Earlier, period_text
-from outage_tools.report.pictures import GROUP_HEADS, by_name, group_cells, rates_heads, saidi_bar
+from outage_tools.report.pictures import GROUP_HEADS, as_file, by_name, group_cells, rates_heads, saidi_bar
 from outage_tools.report.pieces import (
     NONE,
     PROVED,
@@ -23,6 +23,7 @@ from outage_tools.report.pieces import (
 WORST_PART = 20  # one of so many feeders is set apart: 5 %
 MOST_BARS = 25
 TITLE = "Feeders, the worst by SAIDI first"
+CAPTION = "SAIDI by feeder, minutes per customer"
 
 
 def feeder_text(feeder: int, names: Names) -> str:
@@ -59,15 +60,31 @@ def before_cells(earlier: Earlier | None, feeder: int) -> list[str]:
     return [NONE, NONE] if known is None else [str(known.rank), minutes(known.saidi)]
 
 
+def apart_of(ranked: Ranked) -> set[int]:
+    """The feeders that are set apart."""
+    worst = worst_of(ranked.by_saidi)
+    return {int(name) for name in ranked.names() if ranked.by_saidi.get(int(name), worst + 1) <= worst}
+
+
+def feeder_bars(found: Checked, names: Names) -> list[Bar]:
+    """SAIDI of the worst feeders."""
+    ranked, sets = Ranked(found, "all"), by_name(feeder_rows(found))
+    apart = apart_of(ranked)
+    return [
+        saidi_bar(f"feeder {feeder_text(feeder, names)}", sets[feeder]["all"].rates.saidi, feeder in apart)
+        for feeder in [int(name) for name in ranked.names()][:MOST_BARS]
+    ]
+
+
+def own_picture(found: Checked, names: Names) -> str:
+    """The picture of the feeders as a file of its own."""
+    return as_file(lines_of_bars(feeder_bars(found, names), CAPTION))
+
+
 def feeder_part(found: Checked, names: Names, earlier: Earlier | None = None) -> Part:
     """SAIDI by feeder, and its table."""
     ranked, sets = Ranked(found, "all"), by_name(feeder_rows(found))
-    feeders, worst = [int(name) for name in ranked.names()], worst_of(ranked.by_saidi)
-    apart = {feeder for feeder in feeders if ranked.by_saidi.get(feeder, worst + 1) <= worst}
-    bars = [
-        saidi_bar(f"feeder {feeder_text(feeder, names)}", sets[feeder]["all"].rates.saidi, feeder in apart)
-        for feeder in feeders[:MOST_BARS]
-    ]
+    feeders, apart = [int(name) for name in ranked.names()], apart_of(ranked)
     heads = [*numbers("rank"), Column("feeder", "name"), *GROUP_HEADS, *rates_heads(found), *before_heads(earlier)]
     rows = []
     for feeder in feeders:
@@ -75,7 +92,7 @@ def feeder_part(found: Checked, names: Names, earlier: Earlier | None = None) ->
         rows.append(TableRow([*cells, *before_cells(earlier, feeder)], feeder in apart))
     content = f"""
 <p>{said_of_worst(len(feeders), len(apart))} Each is over the customers of its own sections, by their home feeder.</p>
-{figure(bars_below(bars, "SAIDI by feeder"), note_of(len(feeders)), "below")}
+{figure(bars_below(feeder_bars(found, names), "SAIDI by feeder"), note_of(len(feeders)), "below")}
 {table(heads, rows)}"""
     return Part("feeders", TITLE, PROVED, content)
 

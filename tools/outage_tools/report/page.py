@@ -2,7 +2,8 @@
 
     python3 tools/report.py BOOK [-o year.html] [--pdf year.pdf] [--name NAME] [--cover FILE] [--names FILE]
                             [--causes FILE] [--by FILE] [--events | --ticket RULE] [--customers] [--oms FILE]
-                            [--earlier BOOK ..] [--picture days.svg] [--date DATE] [--table FILE | --program PATH]
+                            [--earlier BOOK ..] [--picture days.svg] [--pictures FOLDER] [--date DATE]
+                            [--table FILE | --program PATH]
 
 One HTML file that needs no network and no script, and the same as a PDF. Its indices are the words of the program's annual
 table; what is computed here says so, and was compared with the book's postings and that table first (compare.py).
@@ -28,7 +29,7 @@ from outage_tools.report.cover import Cover, Sources, cover_text, read_facts
 from outage_tools.report.customers import customer_part
 from outage_tools.report.earlier import Earlier, read_earlier
 from outage_tools.report.exact import FurtherIndices, exact_part, group_counts_part
-from outage_tools.report.feeders import feeder_part
+from outage_tools.report.feeders import feeder_part, own_picture
 from outage_tools.report.head import heading, state_of
 from outage_tools.report.major_days import major_days_part
 from outage_tools.report.pdf import print_page
@@ -39,6 +40,7 @@ from outage_tools.report.pictures import (
     day_table_part,
     marked_days,
     month_part,
+    own_pictures,
     picture,
 )
 from outage_tools.report.pieces import COMPUTED, PROVED, Part
@@ -163,6 +165,20 @@ def asked_for(found: Checked, args: argparse.Namespace) -> Asked:
     )
 
 
+def pictures_of(found: Checked, names: Names) -> dict[str, str]:
+    """The pictures of a page as files, by their names."""
+    return {**own_pictures(found), "feeders": own_picture(found, names)}
+
+
+def write_pictures(folder: str, pictures: Mapping[str, str]) -> None:
+    try:
+        Path(folder).mkdir(parents=True, exist_ok=True)
+    except OSError as error:
+        raise BookError(f"{folder}: {error.strerror}") from None
+    for name, text in pictures.items():
+        write(f"{folder}/{name}.svg", text)
+
+
 def write(path: str, text: str) -> None:
     try:
         Path(path).write_text(text, encoding="utf-8")
@@ -177,6 +193,11 @@ def parser_of_report() -> Parser:
     parser.add_argument("--pdf", metavar="FILE", help="write the page as PDF (Debian's package chromium prints it)")
     parser.add_argument(
         "--picture", metavar="FILE", help="write the picture of the days too, as an SVG file of its own"
+    )
+    parser.add_argument(
+        "--pictures",
+        metavar="FOLDER",
+        help="write the pictures of days, months, causes and feeders too, each as an SVG file of its own",
     )
     add_page_arguments(parser, NAME)
     parser.set_defaults(name=None)
@@ -213,13 +234,17 @@ def main() -> int:
 
     def job() -> None:
         with open_book(args.book, args.table, args.program) as found:
-            text = page(found, asked_for(found, args))
+            asked = asked_for(found, args)
+            text = page(found, asked)
             days = picture(found) if args.picture else ""
+            pictures = pictures_of(found, asked.names or {}) if args.pictures else {}
         if args.pdf:
             print_page(text, args.pdf)
         if args.output:
             write(args.output, text)
         if args.picture:
             write(args.picture, days)
+        if args.pictures:
+            write_pictures(args.pictures, pictures)
 
     return run_job(job)

@@ -6,7 +6,7 @@ from datetime import date
 from fractions import Fraction
 
 from outage_tools.causes import CauseGroup, CauseRow, cause_group_rows, cause_rows
-from outage_tools.charts import NARROW, Bar, Tick, bars_below, columns, legend
+from outage_tools.charts import NARROW, Bar, Tick, bars_below, columns, legend, lines_of_bars
 from outage_tools.compare import Checked
 from outage_tools.counts import SETS, Rates
 from outage_tools.days import DayRow, day_rows, month_rows
@@ -71,6 +71,9 @@ def drawn(bars: list[Bar], title: str, unit: str, note: str, source: str = "", t
 
 
 POSTED = "Customer-hours without supply, day by day", "customer-hours"
+STANDARD = "Daily SAIDI, day by day", "minutes per customer"
+MONTHS = "SAIDI by month", "minutes per customer"
+CAUSES = "Customer-hours without supply by cause"
 POSTED_NOTE = (
     "Customer-hours without supply in each day, as the program posted them: each second in the day in which it lies,"
     " momentary interruptions too."
@@ -89,8 +92,24 @@ DAY_DECIMALS = 2  # of a daily SAIDI, which mostly is less than a minute
 
 def picture(found: Checked) -> str:
     """The picture of the days as a file of its own, for other pages."""
-    begin, _, rest = columns(days_of(found).posted, *POSTED).partition(">")
+    return as_file(columns(days_of(found).posted, *POSTED))
+
+
+def as_file(drawing: str) -> str:
+    """A drawing as a file of its own."""
+    begin, _, rest = drawing.partition(">")
     return f'{begin} xmlns="http://www.w3.org/2000/svg"><style>{PICTURE_STYLE}</style>{rest}\n'
+
+
+def own_pictures(found: Checked) -> dict[str, str]:
+    """The pictures of days, months and causes as files, by their names."""
+    days = days_of(found)
+    return {
+        "days": as_file(columns(days.posted, *POSTED)),
+        "daily-saidi": as_file(columns(days.standard, *STANDARD)),
+        "months": as_file(columns(month_bars(found), *MONTHS)),
+        "causes": as_file(lines_of_bars(cause_bars(found), CAUSES)),
+    }
 
 
 def day_row(row: DayRow) -> TableRow:
@@ -112,7 +131,7 @@ def day_part(found: Checked) -> Part:
     content = f"""
 {legend(meanings) if meanings else ""}
 {drawn(days.posted, *POSTED, POSTED_NOTE, PROVED)}
-{drawn(days.standard, "Daily SAIDI, day by day", "minutes per customer", STANDARD_NOTE, COMPUTED)}"""
+{drawn(days.standard, *STANDARD, STANDARD_NOTE, COMPUTED)}"""
     return Part("days", "Days", "", content)
 
 
@@ -173,17 +192,19 @@ def saidi_bar(label: str, saidi: Fraction | None, is_apart: bool = False) -> Bar
     return Bar(label, length_of(saidi), f"{label}: {minutes(saidi)} min", is_apart)
 
 
+def month_bars(found: Checked) -> list[Bar]:
+    return [saidi_bar(str(name), sets["all"].rates.saidi) for name, sets in by_name(month_rows(found)).items()]
+
+
 def month_part(found: Checked) -> Part:
     """SAIDI by month, and its table."""
     months = by_name(month_rows(found))
-    bars = [saidi_bar(str(name), sets["all"].rates.saidi) for name, sets in months.items()]
-    title = "SAIDI by month"
     note = "Minutes per customer served of the month, all interruptions that begin in it."
     rows = [TableRow([name, *group_cells(found, sets)]) for name, sets in months.items()]
     content = f"""
-{drawn(bars, title, "minutes per customer", note)}
+{drawn(month_bars(found), *MONTHS, note)}
 {table([Column("month"), *GROUP_HEADS, *rates_heads(found)], rows)}"""
-    return Part("months", title, PROVED, content)
+    return Part("months", MONTHS[0], PROVED, content)
 
 
 CAUSE_HEADS = [
@@ -199,18 +220,21 @@ def cause_row(row: CauseRow) -> TableRow:
     return TableRow([row.name, row.code, hours(row.posted), per_cent(row.share), *counts, *indices])
 
 
+def cause_bars(found: Checked) -> list[Bar]:
+    return [
+        Bar(f"{row.name} ({row.code})", row.posted / 3_600, f"{row.name}: {hours(row.posted)} customer-hours")
+        for row in cause_rows(found)
+        if row.posted
+    ]
+
+
 def cause_part(found: Checked) -> Part:
     """Causes, greatest first."""
     rows = cause_rows(found)
-    bars = [
-        Bar(f"{row.name} ({row.code})", row.posted / 3_600, f"{row.name}: {hours(row.posted)} customer-hours")
-        for row in rows
-        if row.posted
-    ]
     note = "Customer-hours without supply under each cause, as the program posted them."
     summary = "The figures of this picture; the shares are computed here"
     content = f"""
-{figure(bars_below(bars, "Customer-hours without supply by cause"), note, "below")}
+{figure(bars_below(cause_bars(found), CAUSES), note, "below")}
 {behind(summary, table(CAUSE_HEADS, map(cause_row, rows)), len(rows))}"""
     return Part("causes", "Causes, greatest first", PROVED, content)
 

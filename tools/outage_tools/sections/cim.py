@@ -9,7 +9,7 @@ from dataclasses import dataclass, field
 from typing import Any
 from xml.parsers import expat
 
-from outage_tools.errors import BookError
+from outage_tools.errors import BookError, lacks
 from outage_tools.oms.complaints import BadRow, Notes
 from outage_tools.oms.files import Spot
 from outage_tools.sections.edges import LINE, SWITCHING, TRANSFORMER, Edge, Load
@@ -91,9 +91,7 @@ def graph_of(path: str) -> Any:
     try:
         import rdflib
     except ImportError:
-        raise BookError(
-            "CIM is read by rdflib, which this Python hasn't; as root: apt-get install python3-rdflib"
-        ) from None
+        raise lacks("CIM is read", "python3-rdflib") from None
     graph = rdflib.Graph()
     try:
         graph.parse(path, format="xml", publicID=BASE)

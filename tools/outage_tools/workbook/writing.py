@@ -2,7 +2,6 @@
 
 import os
 import re
-import sys
 import tempfile
 from collections.abc import Sequence
 from contextlib import suppress
@@ -10,7 +9,7 @@ from datetime import datetime
 from pathlib import Path
 from typing import Any
 
-from outage_tools.errors import BookError
+from outage_tools.errors import BookError, lacks
 from outage_tools.workbook.sheets import Cell, Decimal, Formula, Sheet, shortened, widths_of
 
 FIXED = datetime(1980, 1, 1)
@@ -29,10 +28,7 @@ def xlsxwriter_module() -> Any:
     try:
         import xlsxwriter
     except ImportError:
-        raise BookError(
-            f"a workbook is written by Debian's python3-xlsxwriter, which {sys.executable} doesn't have: install it, or"
-            " run the tool by /usr/bin/python3"
-        ) from None
+        raise lacks("a workbook is written", "python3-xlsxwriter") from None
     return xlsxwriter
 
 
