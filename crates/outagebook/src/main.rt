@@ -13,15 +13,18 @@ mod ending;
 mod period;
 mod port;
 mod progress;
+mod stack;
 mod task;
 mod total;
 mod words;
 
 use crate::books::run_on_book;
 use crate::ending::tell_end;
+use crate::stack::take_stack;
 use crate::task::task_of;
 use crate::total::print_total;
 use crate::words::job_of;
+use ob_base::{Fault, Stop};
 pub use ob_cli::{Job, Unfinished, Word, WrongWords, complaint_of, read_words, status_of_run};
 use ob_stream::Watched;
 pub use ob_total::{TotalStop, run_total};
@@ -30,13 +33,21 @@ use std::process::ExitCode;
 
 fn main(rt: HostRuntime) -> ExitCode {
     let rt = &rt;
-    let run = match job_of(rt) {
-        Ok(job) => do_job(rt, &job),
-        Err(wrong) => Err(Unfinished::Words(wrong)),
+    let run = match take_stack(rt.alloc()) {
+        Ok(()) => do_words(rt),
+        Err(_) => Err(Unfinished::from(Stop::Fault(Fault::OutOfMemory))),
     };
     let mut out = Watched::new(rt.stdout());
     let mut err = Watched::new(rt.stderr());
     ExitCode::from(tell_end(rt.alloc(), run, &mut out, &mut err))
+}
+
+/// Does the job that the arguments name.
+fn do_words(rt: &HostRuntime) -> Result<(), Unfinished> {
+    match job_of(rt) {
+        Ok(job) => do_job(rt, &job),
+        Err(wrong) => Err(Unfinished::Words(wrong)),
+    }
 }
 
 /// Does a job on the files and the port that it names.
