@@ -8,7 +8,7 @@ from model import Book, Run, quotient
 from state import End
 
 BY = ["whole", "feeder", "month", "day", "cause", "section"]
-INDICES = ["saifi", "saidi", "caidi", "caifi", "asai", *(f"cemi_{n}" for n in range(1, 11)), "maifi"]
+INDICES = ["saifi", "saidi", "caidi", "caifi", "asai", *(f"cemi_{n}" for n in range(1, 11)), "maifi", "ctaidi"]
 PLACES = {"asai": 5}  # decimals; 3 of the others
 COLUMNS = "key,set,period_seconds,customer_seconds_served,customers_served,customers_served_3"
 COUNTS = "sustained,sustained_customer_seconds,interrupted,momentary"
@@ -120,7 +120,7 @@ def line_of(book: Book, selection: Selection, is_unmarked: bool, longest: int) -
     asai = quotient(s - csi, s) if is_whole else None
     values = [quotient(ci * p, s), quotient(csi * p, 60 * s), quotient(csi, 60 * ci), quotient(ci, with_some[0]), asai]
     values += [quotient(customers * p, s) for customers in with_some]
-    values.append(quotient(momentary * p, s))
+    values += [quotient(momentary * p, s), quotient(csi, 60 * with_some[0])]
     fields = [selection.key, "unmarked" if is_unmarked else "all", str(p), str(s), *fields_of(quotient(s, p), 3)]
     fields += map(str, [ci, csi, with_some[0], momentary])
     for name, value in zip(INDICES, values):

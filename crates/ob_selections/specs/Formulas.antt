@@ -64,6 +64,7 @@ listed =
     ∷ (codes "cemi_9", per_customer (Interrupted 8))
     ∷ (codes "cemi_10", per_customer (Interrupted 9))
     ∷ (codes "maifi", per_customer Momentary)
+    ∷ (codes "ctaidi", formula SustainedSeconds false (Interrupted 0) 60 3)
     ∷ []
 
 -- what is past the end of the list

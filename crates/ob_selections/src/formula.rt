@@ -67,11 +67,11 @@ fn per_customer(numerator: Measure) -> Formula
 }
 
 /// How many indices are listed.
-pub const LISTED: usize = 16;
+pub const LISTED: usize = 17;
 
 /// An index of a selection by its place in the list, under its name.
 pub fn listed_at(place: usize) -> (&'static str, Formula)
-    requires { place < 16 }
+    requires { place < 17 }
     ensures name { result.0.now ≡ (slice_index_or listed place unlisted).0 }
     ensures formula { result.1 ≡ (slice_index_or listed place unlisted).1 }
 {
@@ -103,7 +103,11 @@ pub fn listed_at(place: usize) -> (&'static str, Formula)
         12 => ("cemi_8", per_customer(Measure::Interrupted(7))),
         13 => ("cemi_9", per_customer(Measure::Interrupted(8))),
         14 => ("cemi_10", per_customer(Measure::Interrupted(9))),
-        _ => ("maifi", per_customer(Measure::Momentary)),
+        15 => ("maifi", per_customer(Measure::Momentary)),
+        _ => (
+            "ctaidi",
+            quotient(Measure::SustainedSeconds, false, Measure::Interrupted(0), 60, 3),
+        ),
     }
 }
 
