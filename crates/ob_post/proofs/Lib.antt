@@ -22,3 +22,4 @@ pub mod Recaused
 pub mod RunLists
 pub mod SmallCauses
 pub mod Staying
+pub mod PartByPart

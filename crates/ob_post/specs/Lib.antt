@@ -11,3 +11,4 @@ pub mod SectionLaws
 pub mod TotalLaws
 pub mod Balances
 pub mod Causes
+pub mod Parts

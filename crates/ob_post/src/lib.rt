@@ -11,6 +11,7 @@
 mod difference;
 mod differing;
 pub mod laws;
+mod parts;
 mod place;
 mod posting;
 mod postings;

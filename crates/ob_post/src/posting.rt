@@ -3,8 +3,10 @@ ghost use Rattle.std.specs.Prelude.{◌≡◌};
 
 use crate::differing::compare;
 use crate::laws::move_laws;
+use crate::parts::{bound_behind, of_section, part_from, place_from, rise};
+use crate::run_amounts::served_delta;
 use crate::run_causes::{cause_after, cause_before, causes_after, causes_before, place_recaused};
-use crate::{MOST_DAYS, Moved, moves, post_run, post_runs};
+use crate::{Dim, MOST_DAYS, Moved, moves, post_run, post_runs};
 use ob_base::Stop;
 use ob_cust::Roll;
 use ob_sheet::Sheet;
@@ -21,7 +23,7 @@ pub struct Posting {
 }
 
 impl Posting {
-    ghost use Rattle.std.specs.Prelude.{◌≡◌, ◌<◌, ◌≤◌, ℕ, IfOk, IfErr, OnOk};
+    ghost use Rattle.std.specs.Prelude.{◌≡◌, ◌<◌, ◌≤◌, ℕ, true, Some, IfOk, IfErr, IfSome, OnOk};
     ghost use Rattle.std.specs.List.{All, AllPairs};
     ghost use Rattle.ob_base.specs.Stop.{out_of_memory};
     ghost use Rattle.ob_sweep.specs.Changed.{changed};
@@ -33,6 +35,7 @@ impl Posting {
     ghost use Rattle.ob_post.specs.declared.Dim.{Dim as Dimension};
     ghost use Rattle.ob_post.specs.Balances.{together, Balances, IsOfSmall, Posts};
     ghost use Rattle.ob_post.specs.Causes.{BeginAtCutters, IsSoundChange};
+    ghost use Rattle.ob_post.specs.Parts.{AreOfSameSeconds, amount_of_part, rise_from};
 
     /// Makes an empty `Posting`: no amount is taken back or given yet.
     pub fn new(alloc: Global) -> Posting
@@ -146,9 +149,172 @@ impl Posting {
     {
         let runs = compare(old, new);
         self.relabel(runs.front, sheet, change, feeder, roll, period)?;
-        self.take(runs.taken, sheet, feeder, roll, period)?;
-        self.give_changed(runs.given, sheet, change, feeder, roll, period)?;
+        self.replace_between(runs.taken, runs.given, sheet, change, feeder, roll, period)?;
         self.relabel(runs.back, sheet, change, feeder, roll, period)
+    }
+
+    // Takes back the amounts of the outage intervals that disappear, and gives those of the new
+    // ones. Where both come one behind another, the seconds that they have in common stay.
+    fn replace_between(
+        &mut self,
+        taken: &[Run],
+        given: &[Run],
+        sheet: &Sheet,
+        change: &Change,
+        feeder: u8,
+        roll: &Roll,
+        period: &CivilDays,
+    ) -> Result<(), Stop>
+        requires change { IsSoundChange change.now sheet.now.entries }
+        requires feeder { 1 ≤ feeder }
+        requires taken { LieWithin (first_second_of period.now) (end_second_of period.now) taken.now }
+        requires given { LieWithin (first_second_of period.now) (end_second_of period.now) given.now }
+        ensures posted { Posts (day_count period.now) self.old self.new result
+            (amount_of_runs sheet.now.entries roll.now.customers (days_of period.now) feeder
+            taken.now) (amount_of_runs (changed change.now sheet.now.entries) roll.now.customers
+            (days_of period.now) feeder given.now) }
+        ensures err { IfErr result (λ stop. stop ≡ out_of_memory) }
+    {
+        if rise(taken) && rise(given) {
+            return self.replace_by_parts(taken, given, sheet, change, feeder, roll, period);
+        }
+        self.take(taken, sheet, feeder, roll, period)?;
+        self.give_changed(given, sheet, change, feeder, roll, period)
+    }
+
+    // The same for outage intervals that come one behind another, part by part.
+    fn replace_by_parts(
+        &mut self,
+        taken: &[Run],
+        given: &[Run],
+        sheet: &Sheet,
+        change: &Change,
+        feeder: u8,
+        roll: &Roll,
+        period: &CivilDays,
+    ) -> Result<(), Stop>
+        requires change { IsSoundChange change.now sheet.now.entries }
+        requires feeder { 1 ≤ feeder }
+        requires taken { LieWithin (first_second_of period.now) (end_second_of period.now) taken.now }
+        requires given { LieWithin (first_second_of period.now) (end_second_of period.now) given.now }
+        requires taken_rise { rise_from 0 taken.now ≡ true }
+        requires given_rise { rise_from 0 given.now ≡ true }
+        ensures posted { Posts (day_count period.now) self.old self.new result
+            (amount_of_runs sheet.now.entries roll.now.customers (days_of period.now) feeder
+            taken.now) (amount_of_runs (changed change.now sheet.now.entries) roll.now.customers
+            (days_of period.now) feeder given.now) }
+        ensures err { IfErr result (λ stop. stop ≡ out_of_memory) }
+    {
+        let end = period.end_second();
+        let mut at = period.first_second();
+        let mut old = 0;
+        let mut new = 0;
+        while at < end {
+            let taken_until = bound_behind(taken, old, at, end);
+            let given_until = bound_behind(given, new, at, end);
+            let until = taken_until.min(given_until);
+            let was = part_from(taken, old, at, until);
+            let now = part_from(given, new, at, until);
+            self.replace_part(was, now, sheet, change, feeder, roll, period)?;
+            old = place_from(taken, old, until);
+            new = place_from(given, new, until);
+            at = until;
+        }
+        Ok(())
+    }
+
+    // Takes back the amounts of a part of an outage interval, and gives those of another one of the
+    // same seconds.
+    fn replace_part(
+        &mut self,
+        was: Option<Run>,
+        now: Option<Run>,
+        sheet: &Sheet,
+        change: &Change,
+        feeder: u8,
+        roll: &Roll,
+        period: &CivilDays,
+    ) -> Result<(), Stop>
+        requires change { IsSoundChange change.now sheet.now.entries }
+        requires feeder { 1 ≤ feeder }
+        requires was { IfSome was (λ r. (first_second_of period.now ≤ r.since) × (r.since < r.until)
+            × (r.until ≤ end_second_of period.now)) }
+        requires now { IfSome now (λ r. (first_second_of period.now ≤ r.since) × (r.since < r.until)
+            × (r.until ≤ end_second_of period.now)) }
+        requires seconds { AreOfSameSeconds was now }
+        ensures posted { Posts (day_count period.now) self.old self.new result
+            (amount_of_part sheet.now.entries roll.now.customers (days_of period.now) feeder was)
+            (amount_of_part (changed change.now sheet.now.entries) roll.now.customers
+            (days_of period.now) feeder now) }
+        ensures err { IfErr result (λ stop. stop ≡ out_of_memory) }
+    {
+        match was {
+            Some(run) => self.replace_run(run, now, sheet, change, feeder, roll, period),
+            None => self.give_part(now, sheet, change, feeder, roll, period),
+        }
+    }
+
+    // Takes back the amounts of an outage interval, and gives those of another one of the same
+    // seconds, if there is one. Of the same section, only the cause may have to be moved.
+    fn replace_run(
+        &mut self,
+        run: Run,
+        part: Option<Run>,
+        sheet: &Sheet,
+        change: &Change,
+        feeder: u8,
+        roll: &Roll,
+        period: &CivilDays,
+    ) -> Result<(), Stop>
+        requires change { IsSoundChange change.now sheet.now.entries }
+        requires feeder { 1 ≤ feeder }
+        requires begins { first_second_of period.now ≤ run.since }
+        requires some { run.since < run.until }
+        requires ends { run.until ≤ end_second_of period.now }
+        requires part { IfSome part (λ r. (first_second_of period.now ≤ r.since)
+            × (r.since < r.until) × (r.until ≤ end_second_of period.now)) }
+        requires seconds { AreOfSameSeconds (Some run) part }
+        ensures posted { Posts (day_count period.now) self.old self.new result
+            (amount_of_part sheet.now.entries roll.now.customers (days_of period.now) feeder
+            (Some run)) (amount_of_part (changed change.now sheet.now.entries) roll.now.customers
+            (days_of period.now) feeder part) }
+        ensures err { IfErr result (λ stop. stop ≡ out_of_memory) }
+    {
+        if let Some(other) = of_section(part, run.section) {
+            let before = cause_before(sheet, &run);
+            let after = cause_after(sheet, change, &other);
+            return self.relabel_run(&run, before, after, roll, period);
+        }
+        self.take(&[run], sheet, feeder, roll, period)?;
+        self.give_part(part, sheet, change, feeder, roll, period)
+    }
+
+    // Gives the amounts of a part of an outage interval, if there is one, under the causes after a
+    // change.
+    fn give_part(
+        &mut self,
+        part: Option<Run>,
+        sheet: &Sheet,
+        change: &Change,
+        feeder: u8,
+        roll: &Roll,
+        period: &CivilDays,
+    ) -> Result<(), Stop>
+        requires change { IsSoundChange change.now sheet.now.entries }
+        requires feeder { 1 ≤ feeder }
+        requires part { IfSome part (λ r. (first_second_of period.now ≤ r.since)
+            × (r.since < r.until) × (r.until ≤ end_second_of period.now)) }
+        ensures given { (old new : Dimension → ℕ → ℕ)
+            → Balances (day_count period.now) self.old old new
+            → OnOk result (Balances (day_count period.now) self.new old (together new
+            (amount_of_part (changed change.now sheet.now.entries) roll.now.customers
+            (days_of period.now) feeder part))) }
+        ensures err { IfErr result (λ stop. stop ≡ out_of_memory) }
+    {
+        match part {
+            Some(run) => self.give_changed(&[run], sheet, change, feeder, roll, period),
+            None => Ok(()),
+        }
     }
 
     /// Moves the amounts of the one outage interval of a section whose cause changes with the
@@ -180,26 +346,25 @@ impl Posting {
         let run = &runs[place];
         let before = cause_before(sheet, run);
         let after = cause_after(sheet, change, run);
-        self.relabel_run(run, before, after, feeder, roll, period)
+        self.relabel_run(run, before, after, roll, period)
     }
 
-    // Moves the amounts of an outage interval to its new cause, if the cause changes.
+    // Moves the amount of an outage interval to its new cause, if the cause changes. The amounts by
+    // feeder and by day stay.
     fn relabel_run(
         &mut self,
         run: &Run,
         before: u8,
         after: u8,
-        feeder: u8,
         roll: &Roll,
         period: &CivilDays,
     ) -> Result<(), Stop>
         requires before { before < 64 }
         requires after { after < 64 }
-        requires feeder { 1 ≤ feeder }
         requires begins { first_second_of period.now ≤ run.now.since }
         requires some { run.now.since < run.now.until }
         requires ends { run.now.until ≤ end_second_of period.now }
-        ensures posted { Posts (day_count period.now) self.old self.new result
+        ensures posted { (feeder : ℕ) → Posts (day_count period.now) self.old self.new result
             (customer_seconds_in roll.now.customers run.now before feeder (days_of period.now))
             (customer_seconds_in roll.now.customers run.now after feeder (days_of period.now)) }
         ensures err { IfErr result (λ stop. stop ≡ out_of_memory) }
@@ -207,8 +372,19 @@ impl Posting {
         if before == after {
             return Ok(());
         }
-        post_run(run, before, feeder, roll, period, &mut self.taken)?;
-        post_run(run, after, feeder, roll, period, &mut self.given)
+        prove!(period.first_second() <= run.since && run.until <= period.end_second());
+        let delta = served_delta(roll, run.section, run.since, run.until);
+        self.taken.push(Moved {
+            dim: Dim::Cause,
+            key: u16::from(before),
+            delta,
+        })?;
+        self.given.push(Moved {
+            dim: Dim::Cause,
+            key: u16::from(after),
+            delta,
+        })?;
+        Ok(())
     }
 
     /// The amounts given less the amounts taken back, by key, in a period. The error is a failed

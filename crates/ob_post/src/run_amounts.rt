@@ -151,7 +151,7 @@ pub fn post_run(
 }
 
 // The seconds of service as a delta: for 100,000 customers they are far below 2^63.
-fn served_delta(roll: &Roll, section: u16, since: Second, until: Second) -> i64
+pub(crate) fn served_delta(roll: &Roll, section: u16, since: Second, until: Second) -> i64
     requires { until ≤ 99_999_999_999 }
     ensures { result ≡ pos (served roll.now.customers section since until) }
 {

@@ -35,4 +35,4 @@ returns-clause-posted c = λ old new b.
     on_ok_weaker c.relabel_run.result
     (λ h. one_recaused (day_count c.args.period.now) c.relabel_run.new.self was now c.args.roll.now.customers (days_of c.args.period.now) c.args.feeder runs c.in-Some.place absent
     c.cause_before-before.result c.cause_after-after.result old new c.in-Some.ensures.within stay c.cause_before-before.ensures c.cause_after-after.ensures h)
-    (c.relabel_run.ensures.posted old new b)
+    (c.relabel_run.ensures.posted c.args.feeder old new b)

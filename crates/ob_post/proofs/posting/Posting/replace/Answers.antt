@@ -28,14 +28,14 @@ cut_back entries front mid back h =
     let begins = λ (r : Run). IfSome r.cutter (λ number. option_map (λ (e : Entry). e.second) (entry_of entries number) ≡ Some r.since) in
     all_right begins mid back (all_right begins front (mid ++ back) h)
 
-pub take-requires-clause-within : goal.take-requires-clause-within
-take-requires-clause-within c =
+pub replace_between-requires-clause-taken : goal.replace_between-requires-clause-taken
+replace_between-requires-clause-taken c =
     let r = c.compare-runs.result in
     (within_parts (first_second_of c.args.period.now) (end_second_of c.args.period.now) r.front.now r.taken.now r.back.now
     (subst (LieWithin (first_second_of c.args.period.now) (end_second_of c.args.period.now)) c.compare-runs.ensures.old c.requires.old)).0
 
-pub give_changed-requires-clause-within : goal.give_changed-requires-clause-within
-give_changed-requires-clause-within c =
+pub replace_between-requires-clause-given : goal.replace_between-requires-clause-given
+replace_between-requires-clause-given c =
     let r = c.compare-runs.result in
     (within_parts (first_second_of c.args.period.now) (end_second_of c.args.period.now) r.front.now r.given.now r.back.now
     (subst (LieWithin (first_second_of c.args.period.now) (end_second_of c.args.period.now)) c.compare-runs.ensures.new c.requires.new)).0
@@ -66,8 +66,7 @@ returns-clause-posted c = λ old new b.
     let of : List Entry → List Run → Dim → ℕ → ℕ = λ entries runs. amount_of_runs entries roll days f runs in
     let r = c.compare-runs.result in
     let fronts = c.in_ok-relabel.ensures.posted old new b in
-    let taken = c.in_ok-take.ensures.taken (together old (of was r.front.now)) (together new (of now r.front.now)) fronts in
-    let given = c.in_ok-give_changed.ensures.given (together (together old (of was r.front.now)) (of was r.taken.now)) (together new (of now r.front.now)) taken in
+    let between = c.in_ok-replace_between.ensures.posted (together old (of was r.front.now)) (together new (of now r.front.now)) fronts in
     on_ok_weaker c.relabel-2.result
     (λ h. balances_as (day_count c.args.period.now) c.relabel-2.new.self
     (together (together (together old (of was r.front.now)) (of was r.taken.now)) (of was r.back.now)) (together (together (together new (of now r.front.now)) (of now r.given.now)) (of now r.back.now))
@@ -75,4 +74,4 @@ returns-clause-posted c = λ old new b.
     (λ dim key. let parts = amount_of_parts was roll days f r.front.now r.taken.now r.back.now c.args.old.now dim key c.compare-runs.ensures.old in omega (arith, parts))
     (λ dim key. let parts = amount_of_parts now roll days f r.front.now r.given.now r.back.now c.args.new.now dim key c.compare-runs.ensures.new in omega (arith, parts))
     h)
-    (c.relabel-2.ensures.posted (together (together old (of was r.front.now)) (of was r.taken.now)) (together (together new (of now r.front.now)) (of now r.given.now)) given)
+    (c.relabel-2.ensures.posted (together (together old (of was r.front.now)) (of was r.taken.now)) (together (together new (of now r.front.now)) (of now r.given.now)) between)
