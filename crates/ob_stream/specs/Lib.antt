@@ -1,2 +1,3 @@
+pub mod Retrying
 pub mod Streams
 pub mod Watching

@@ -5,6 +5,7 @@ ghost use Rattle.std.specs.Io.{ReadsAtMost, WritesAtMost};
 ghost use Rattle.std.specs.Io.KnownBytes.{Appends, ReadConsumes, WriteAppends};
 ghost use Rattle.ob_stream.specs.Watching.{HasJustFailed, watched_bytes};
 ghost use Rattle.ob_stream.specs.Streams.{retries_left, IsWhole, Passes, AppendsFront};
+ghost use Rattle.ob_stream.specs.Retrying.{Tries};
 
 use crate::Watched;
 use ob_base::Fault;
@@ -52,6 +53,7 @@ pub fn read_some<R: Read>(
     ensures bytes { ReadConsumes (watched_bytes R.remaining reader.old)
         (watched_bytes R.remaining reader.new) result buf.new }
     ensures fault { IfErr result (λ f. (f ≡ Fault.Input) × HasJustFailed reader.new) }
+    ensures tries { Tries (retries_left retries.old) (retries_left retries.new) reader.old reader.new result }
 {
     loop {
         match reader.read(buf) {
@@ -77,6 +79,7 @@ pub fn read_text<R: Read>(
     ensures fault { IfErr result (λ f. (f ≡ Fault.OutOfMemory)
         ⊎ ((f ≡ Fault.Input) × (HasJustFailed reader.new
         ⊎ Passes (watched_bytes R.remaining reader.old) limit))) }
+    ensures tries { Tries (retries_left retries.old) (retries_left retries.new) reader.old reader.new result }
 {
     let mut text = Vec::new(alloc);
     let mut chunk = [0u8; 4096];
@@ -106,6 +109,7 @@ pub fn write_text<W: Write>(
     ensures front { IfErr result (λ _. AppendsFront (watched_bytes W.contents writer.old)
         (watched_bytes W.contents writer.new) text.now) }
     ensures fault { IfErr result (λ f. (f ≡ Fault.Output) × HasJustFailed writer.new) }
+    ensures tries { Tries (retries_left retries.old) (retries_left retries.new) writer.old writer.new result }
 {
     let mut at = 0;
     while at < text.len() {

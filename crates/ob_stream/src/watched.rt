@@ -1,33 +1,40 @@
-//! `Watched`: a reader or writer that remembers whether any call failed, and whether the last did.
+//! `Watched`: a reader or writer that remembers whether any call failed, and whether the last did,
+//! and counts its interrupted calls.
 ghost use Rattle.std.specs.Prelude.{◌≡◌, ◌≢◌, ◌||◌, ◌≤◌, length, false, true, IfErr, OnErr};
 ghost use Rattle.std.specs.Result.{is_err};
 ghost use Rattle.std.specs.Io.{ReadsAtMost, WritesAtMost};
 ghost use Rattle.std.specs.Io.KnownBytes.{Keeps, ReadConsumes, WriteAppends};
 
+use crate::interruptions::Interruptions;
 use std::io;
 use std::io::{Read, Write};
 
-/// A reader or writer `D` that records whether any call failed, and whether the last one did.
+/// A reader or writer `D` that records whether any call failed, whether the last one did, and how
+/// many calls were interrupted.
 #[derive(Drop)]
 pub struct Watched<D> {
     inner: D,
     failed: bool,
     last_failed: bool,
+    interruptions: Interruptions,
 }
 
 impl<D> Watched<D> {
-    ghost use Rattle.ob_stream.specs.Watching.{watched_inner, watched_failed, watched_last_failed};
+    ghost use Rattle.ob_stream.specs.Watching.{watched_inner, watched_failed, watched_last_failed, interruptions, was_interrupted};
 
     /// Watches `inner`; no call is recorded yet.
     pub fn new(inner: D) -> Watched<D>
         ensures inner { watched_inner result ≡ inner }
         ensures fresh { watched_failed result ≡ false }
         ensures fresh_last { watched_last_failed result ≡ false }
+        ensures uninterrupted { interruptions result ≡ 0 }
+        ensures fresh_interrupted { was_interrupted result ≡ false }
     {
         Watched {
             inner,
             failed: false,
             last_failed: false,
+            interruptions: Interruptions::none(),
         }
     }
 
@@ -48,7 +55,7 @@ impl<D> Watched<D> {
 }
 
 impl<D: Read> Read for Watched<D> {
-    ghost use Rattle.ob_stream.specs.Watching.{watched_inner, watched_failed, watched_last_failed, watched_bytes};
+    ghost use Rattle.ob_stream.specs.Watching.{watched_inner, watched_failed, watched_last_failed, watched_bytes, CountsAnswer};
 
     ghost remaining = { watched_bytes D.remaining };
 
@@ -58,8 +65,9 @@ impl<D: Read> Read for Watched<D> {
             (watched_bytes D.remaining self.new) result buf.new }
         ensures failed { watched_failed self.new ≡ (watched_failed self.old || is_err result) }
         ensures last { watched_last_failed self.new ≡ is_err result }
+        ensures counts { CountsAnswer self.old self.new result }
     {
-        let answer = self.inner.read(buf);
+        let answer = self.interruptions.count(self.inner.read(buf));
         self.last_failed = answer.is_err();
         self.failed = self.failed || self.last_failed;
         answer
@@ -67,7 +75,7 @@ impl<D: Read> Read for Watched<D> {
 }
 
 impl<D: Write> Write for Watched<D> {
-    ghost use Rattle.ob_stream.specs.Watching.{watched_inner, watched_failed, watched_last_failed, watched_bytes, took_none};
+    ghost use Rattle.ob_stream.specs.Watching.{watched_inner, watched_failed, watched_last_failed, watched_bytes, took_none, CountsAnswer};
 
     ghost contents = { watched_bytes D.contents };
 
@@ -78,8 +86,9 @@ impl<D: Write> Write for Watched<D> {
         ensures failed { watched_failed self.new ≡
             (watched_failed self.old || took_none result buf.now) }
         ensures last { watched_last_failed self.new ≡ took_none result buf.now }
+        ensures counts { CountsAnswer self.old self.new result }
     {
-        let answer = self.inner.write(buf);
+        let answer = self.interruptions.count(self.inner.write(buf));
         self.last_failed = refuses(&answer, buf);
         self.failed = self.failed || self.last_failed;
         answer
@@ -90,8 +99,9 @@ impl<D: Write> Write for Watched<D> {
             (watched_bytes D.contents self.new) }
         ensures failed { watched_failed self.new ≡ (watched_failed self.old || is_err result) }
         ensures last { watched_last_failed self.new ≡ is_err result }
+        ensures counts { CountsAnswer self.old self.new result }
     {
-        let answer = self.inner.flush();
+        let answer = self.interruptions.count(self.inner.flush());
         self.last_failed = answer.is_err();
         self.failed = self.failed || self.last_failed;
         answer

@@ -3,6 +3,7 @@ use Rattle.std.proofs.lemmas.List.{take_rest}
 use Rattle.std.specs.Io.KnownBytes.{Appends}
 use Rattle.std.proofs.KnownBytes.{Appends-trans}
 use lib.Seq.{take-add}
+use Rattle.ob_stream.proofs.Counting.{ends_by_answer}
 use Rattle.ob_stream.proofs.stream.write_text.Goals as goal
 
 -- what was written, and a front of what is left, is a longer front
@@ -11,8 +12,13 @@ front_more text at count = ap (λ l. take at text ++ take count l) (take_rest te
 
 pub loop-at-preserved-in-Ok : goal.loop-at-preserved-in-Ok
 loop-at-preserved-in-Ok g c =
-    let (within, front) = c.loop-at.invariant in
+    let (within, front, taken, ends) = c.loop-at.invariant in
     let text = c.args.text.now in
     let at = c.loop-at.at in
     let fits : c.in-Ok.count ≤ length (drop at text) = rw (take_rest text at) at c.in-Ok.ensures.bound in
-    (omega (arith, length-drop at text), subst (Appends _ _) (front_more text at c.in-Ok.count) (Appends-trans _ _ _ _ _ front c.in-Ok.ensures.bytes))
+    let tries = ends_by_answer _ _ c.args.writer.now c.loop-at.writer c.write.new.self taken c.in-Ok.count c.in-Ok.ensures.counts in (
+      omega (arith, length-drop at text),
+      subst (Appends _ _) (front_more text at c.in-Ok.count) (Appends-trans _ _ _ _ _ front c.in-Ok.ensures.bytes),
+      tries.taken,
+      λ _. tries.ends,
+    )
