@@ -1,6 +1,8 @@
 //! The bytes of a stream that were read but that no request has taken yet.
 ghost use Rattle.std.specs.Prelude.{◌≡◌, ◌<◌, ◌≤◌, [], List, ℕ, drop, take, length, true, false, Ok, OnOk, IfOk, IfErr, vec_len};
 ghost use Rattle.std.specs.Io.KnownBytes.{Keeps, IsAtEnd};
+ghost use Rattle.ob_stream.specs.Retrying.{Tries};
+ghost use Rattle.ob_stream.specs.Streams.{retries_left};
 ghost use Rattle.ob_stream.specs.Watching.{watched_bytes};
 ghost use Rattle.ob_http_requests.specs.Unread.{unread, IsReadFault};
 
@@ -68,6 +70,8 @@ pub(crate) fn read_ahead<R: Read>(
     ensures fault { IfErr result (IsReadFault reader.new) }
     ensures kept { IfErr result (λ f. f ≡ Fault.Input
         → Keeps (watched_bytes R.remaining reader.old) (watched_bytes R.remaining reader.new)) }
+    ensures tries { Tries (retries_left retries.old) (retries_left retries.new) reader.old
+        reader.new result }
 {
     let mut piece = [0u8; PIECE];
     let room = (HEAD_BOUND - ahead.len()).min(PIECE);

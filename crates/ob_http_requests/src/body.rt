@@ -1,6 +1,8 @@
 //! Reading a body whose length is known.
 ghost use Rattle.std.specs.Prelude.{◌≡◌, ◌<◌, ◌≤◌, length, true, false, Ok, Err, OnOk, IfOk, IfErr, vec_len};
 ghost use Rattle.std.specs.Io.KnownBytes.{IsAtEnd};
+ghost use Rattle.ob_stream.specs.Retrying.{Tries};
+ghost use Rattle.ob_stream.specs.Streams.{retries_left};
 ghost use Rattle.ob_stream.specs.Watching.{watched_bytes};
 ghost use Rattle.ob_http_requests.specs.Unread.{unread, ReadsMore, IsReadFault};
 ghost use Rattle.ob_http_requests.specs.Reading.{StopsInBody, TakesBody};
@@ -28,6 +30,8 @@ fn fill_body<R: Read>(
     ensures failed { result ≡ Err Fault.Input → (vec_len body.new < size)
         × ReadsMore (watched_bytes R.remaining reader.old) (watched_bytes R.remaining reader.new)
         body.old.items body.new.items }
+    ensures tries { Tries (retries_left retries.old) (retries_left retries.new) reader.old
+        reader.new result }
 {
     let mut piece = [0u8; PIECE];
     'pieces: while body.len() < size {
@@ -59,6 +63,8 @@ fn body_over<R: Read>(
     ensures failed { result ≡ Err Fault.Input → StopsInBody
         (unread ahead.old.items (watched_bytes R.remaining reader.old))
         (watched_bytes R.remaining reader.new) size }
+    ensures tries { Tries (retries_left retries.old) (retries_left retries.new) reader.old
+        reader.new result }
 {
     let front = ahead.len().min(size);
     let mut body = take_front(alloc, ahead, front)?;
@@ -84,6 +90,8 @@ pub fn read_body<R: Read>(
     ensures failed { result ≡ Err Fault.Input → StopsInBody
         (unread ahead.old (watched_bytes R.remaining reader.old))
         (watched_bytes R.remaining reader.new) size }
+    ensures tries { Tries (retries_left retries.old) (retries_left retries.new) reader.old
+        reader.new result }
 {
     body_over(alloc, reader, retries, &mut ahead.bytes, size)
 }

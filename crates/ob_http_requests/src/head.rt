@@ -3,6 +3,8 @@ ghost use Rattle.std.specs.Prelude.{◌≡◌, ◌≤◌, length, OnOk, IfOk, If
 ghost use Rattle.std.specs.Io.KnownBytes.{Keeps};
 ghost use Rattle.httparse.specs.Grammar.{NeverHasRequest};
 ghost use Rattle.httparse.specs.Spans.{IsRequestWithin, IsRequestOf};
+ghost use Rattle.ob_stream.specs.Retrying.{Tries};
+ghost use Rattle.ob_stream.specs.Streams.{retries_left};
 ghost use Rattle.ob_stream.specs.Watching.{watched_bytes};
 ghost use Rattle.ob_http_requests.specs.Unread.{unread};
 ghost use Rattle.ob_http_requests.specs.Head.{IsUnfinished, IfWhole, IfHead, BeginsWith};
@@ -72,6 +74,8 @@ pub(crate) fn read_head<R: Read>(
     ensures head { IfOk result (λ next. IfHead next (IsRequestOf ahead.new.items fields.new)) }
     ensures fault { IfErr result (IsHeadFault (unread ahead.old.items
         (watched_bytes R.remaining reader.old)) (watched_bytes R.remaining reader.new) reader.new) }
+    ensures tries { Tries (retries_left retries.old) (retries_left retries.new) reader.old
+        reader.new result }
 {
     'pieces: loop {
         match parse_head(ahead, fields) {

@@ -1,7 +1,8 @@
 //! Whole requests.
 ghost use Rattle.std.specs.Prelude.{◌≡◌, Err, OnOk, IfOk, IfErr, string_bytes};
 ghost use Rattle.std.specs.Io.KnownBytes.{Appends};
-ghost use Rattle.ob_stream.specs.Streams.{AppendsFront};
+ghost use Rattle.ob_stream.specs.Retrying.{BothTry, Tries};
+ghost use Rattle.ob_stream.specs.Streams.{AppendsFront, retries_left};
 ghost use Rattle.ob_stream.specs.Watching.{HasJustFailed, watched_bytes};
 ghost use Rattle.ob_http_requests.specs.Continue.{interim_text};
 ghost use Rattle.ob_http_requests.specs.Unread.{unread};
@@ -67,6 +68,8 @@ fn write_interim<W: Write>(
     ensures front { IfErr result (λ _. AppendsFront (watched_bytes W.contents writer.old)
         (watched_bytes W.contents writer.new) (interim_text waits)) }
     ensures fault { IfErr result (λ f. (f ≡ Fault.Output) × HasJustFailed writer.new) }
+    ensures tries { Tries (retries_left retries.old) (retries_left retries.new) writer.old
+        writer.new result }
 {
     if waits {
         write_text(writer, retries, b"HTTP/1.1 100 Continue\r\n\r\n")
@@ -96,6 +99,8 @@ pub fn read_request<R: Read, W: Write>(
     ensures unsent { result ≡ Err Fault.Output → TakesHeadAlone
         (unread ahead.old (watched_bytes R.remaining reader.old))
         (unread ahead.new (watched_bytes R.remaining reader.new)) }
+    ensures tries { BothTry (retries_left retries.old) (retries_left retries.new) reader.old
+        reader.new writer.old writer.new result }
 {
     let (framing, target) = match read_start(alloc, reader, retries, ahead)? {
         Start::Head(framing, target) => (framing, target),

@@ -1,5 +1,7 @@
 //! The head of a request, with its method, framing and target.
 ghost use Rattle.std.specs.Prelude.{◌≡◌, ◌≤◌, length, IfOk, IfErr, IsUtf8, vec_len, string_bytes};
+ghost use Rattle.ob_stream.specs.Retrying.{Tries};
+ghost use Rattle.ob_stream.specs.Streams.{retries_left};
 ghost use Rattle.ob_stream.specs.Watching.{watched_bytes};
 ghost use Rattle.ob_http_requests.specs.Unread.{unread};
 ghost use Rattle.ob_http_requests.specs.Reading.{IsHeadFault, Starts};
@@ -58,6 +60,8 @@ fn start_over<R: Read>(
         (watched_bytes R.remaining reader.new))) }
     ensures fault { IfErr result (IsHeadFault (unread ahead.old.items
         (watched_bytes R.remaining reader.old)) (watched_bytes R.remaining reader.new) reader.new) }
+    ensures tries { Tries (retries_left retries.old) (retries_left retries.new) reader.old
+        reader.new result }
 {
     let spans = match read_head(reader, retries, ahead, fields)? {
         NextHead::Head(spans) => spans,
@@ -87,6 +91,8 @@ pub fn read_start<R: Read>(
         (unread ahead.new (watched_bytes R.remaining reader.new))) }
     ensures fault { IfErr result (IsHeadFault (unread ahead.old
         (watched_bytes R.remaining reader.old)) (watched_bytes R.remaining reader.new) reader.new) }
+    ensures tries { Tries (retries_left retries.old) (retries_left retries.new) reader.old
+        reader.new result }
 {
     start_over(alloc, reader, retries, &mut ahead.bytes, &mut ahead.fields)
 }
