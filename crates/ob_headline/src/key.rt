@@ -2,7 +2,7 @@
 ghost use Rattle.std.specs.Prelude.{◌↔◌, IsTrue};
 ghost use Rattle.ob_post.specs.Keys.{IsKey};
 
-use ob_post::Dim;
+use ob_post::{CAUSES, Dim, FEEDERS};
 
 /// Whether amounts are kept under this key of a dimension, in a book of this many days: causes 0 to
 /// 63, feeders 1 to 255, and the days from 0.
@@ -10,8 +10,8 @@ pub(crate) fn is_key(days: u16, dim: Dim, key: u16) -> bool
     ensures { IsTrue result ↔ IsKey days dim key }
 {
     match dim {
-        Dim::Cause => key < 64,
-        Dim::Feeder => 1 <= key && key < 256,
+        Dim::Cause => key < CAUSES,
+        Dim::Feeder => 1 <= key && key <= FEEDERS,
         Dim::Day => key < days,
     }
 }

@@ -8,15 +8,9 @@ use Rattle.ob_base.specs.Stop.{refusal_detail, refusal_name, refusal_number}
 use Rattle.ob_base.specs.declared.Pos.{Pos}
 use Rattle.ob_base.specs.declared.Pos.TheVariants.{Opened, Closed}
 use Rattle.ob_base.specs.declared.stop.Refusal.{Refusal}
-use Rattle.ob_post.specs.declared.Dim.{Dim}
-use Rattle.ob_post.specs.declared.Dim.TheVariants.{Cause, Feeder, Day}
+use Rattle.ob_post.specs.Keys.{dim_word}
 use Rattle.ob_post.specs.declared.Moved.{Moved}
 use Rattle.ob_sheet.specs.declared.Entry.{Entry}
-
-abbrev pub dim_word : Dim → List ℕ
-dim_word Cause = codes "cause"
-dim_word Feeder = codes "feeder"
-dim_word Day = codes "day"
 
 -- `["cause",3,-1200]`
 abbrev pub move_data : Moved → Data

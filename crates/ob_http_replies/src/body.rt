@@ -4,11 +4,11 @@ ghost use Rattle.serde_json.specs.Data.{array};
 ghost use Rattle.serde_json.specs.View.{items_of, view};
 ghost use Rattle.ob_base.specs.Identifier.{is_identifier};
 ghost use Rattle.ob_base.specs.Stop.{out_of_memory};
-ghost use Rattle.ob_http_replies.specs.Bodies.{accepted_data, dim_word, entry_data, move_data, position_word, refused_data, report_data, stopped_data};
+ghost use Rattle.ob_http_replies.specs.Bodies.{accepted_data, entry_data, move_data, position_word, refused_data, report_data, stopped_data};
 ghost use Rattle.ob_http_replies.specs.Bodies as definition;
 
 use ob_base::{Identifier, Name, Pos, Refusal, Stop};
-use ob_post::{Dim, Moved};
+use ob_post::Moved;
 use ob_sheet::Entry;
 use serde_json::{Value, json};
 use std::alloc::{AllocError, Global};
@@ -42,17 +42,7 @@ fn moves(alloc: Global, moved: &[Moved]) -> Result<Value, AllocError>
 fn one_move(alloc: Global, row: &Moved) -> Result<Value, AllocError>
     ensures { IfOk result (λ v. view v ≡ move_data row.now) }
 {
-    json!(in alloc; [word_of_dim(row.dim), row.key, row.delta])
-}
-
-fn word_of_dim(dim: Dim) -> &'static str
-    ensures { result.now ≡ dim_word dim }
-{
-    match dim {
-        Dim::Cause => "cause",
-        Dim::Feeder => "feeder",
-        Dim::Day => "day",
-    }
+    json!(in alloc; [row.dim.word(), row.key, row.delta])
 }
 
 /// Returns the body of the reply to a refused command, `{"detail":2,"name":"Stale","refused":7}`.

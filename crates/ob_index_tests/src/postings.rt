@@ -87,9 +87,9 @@ fn moves_are_differences(rt: HostRuntime) -> Result<(), Fail> {
 
 #[test]
 fn dimensions_have_numbers(rt: HostRuntime) {
-    assert!(rt; Dim::Cause.number() == 1);
-    assert!(rt; Dim::Feeder.number() == 2);
-    assert!(rt; Dim::Day.number() == 3);
+    assert!(rt; Dim::Cause.number() == 1 && Dim::Cause.word() == "cause");
+    assert!(rt; Dim::Feeder.number() == 2 && Dim::Feeder.word() == "feeder");
+    assert!(rt; Dim::Day.number() == 3 && Dim::Day.word() == "day");
 }
 
 // The laws are for proofs: a call does nothing.

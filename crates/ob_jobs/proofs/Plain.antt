@@ -11,7 +11,8 @@ use Rattle.csv.specs.Writing.{default_writer, fields_text, is_blank, row_text}
 use Rattle.csv.specs.Quoting.{needs_byte}
 use Rattle.ob_post.specs.declared.Dim.{Dim}
 use Rattle.ob_post.specs.declared.Dim.TheVariants.{Cause, Feeder, Day}
-use Rattle.ob_jobs.specs.Text.{dim_name, line}
+use Rattle.ob_post.specs.Keys.{dim_word}
+use Rattle.ob_jobs.specs.Text.{line}
 
 own : IsNumeralModel (λ ds. all_ascii_digits ds ≡ true) (digits_value 10)
 own = numerals_by_value _ tells_all_ascii_digits
@@ -28,7 +29,7 @@ plain_digits (c ∷ cs) e =
 plain_decimal : (n : ℕ) → n < 2 ^ 64 → list_any (needs_byte default_writer) (decimal n) ≡ false
 plain_decimal n h = plain_digits (decimal n) (digits_decimal own n h)
 
-plain_name : (d : Dim) → list_any (needs_byte default_writer) (dim_name d) ≡ false
+plain_name : (d : Dim) → list_any (needs_byte default_writer) (dim_word d) ≡ false
 plain_name Cause = refl
 plain_name Feeder = refl
 plain_name Day = refl
@@ -45,5 +46,5 @@ plain_signed (negsuc n) fits = plain_decimal (suc n) (omega (arith, fits))
 
 -- the record of what a command moved is its line
 pub moved_record : (cmd : ℕ) (d : Dim) (key : ℕ) (delta : ℤ) → cmd < 2 ^ 64 → key < 2 ^ 64 → FitsSigned w64 delta
-    → row_text default_writer (decimal cmd ∷ dim_name d ∷ decimal key ∷ signed_decimal delta ∷ []) ≡ line (decimal cmd) (dim_name d) (decimal key) (signed_decimal delta)
-moved_record cmd d key delta few low fits = plain_record (decimal cmd) (dim_name d) (decimal key) (signed_decimal delta) (plain_decimal cmd few) (plain_name d) (plain_decimal key low) (plain_signed delta fits)
+    → row_text default_writer (decimal cmd ∷ dim_word d ∷ decimal key ∷ signed_decimal delta ∷ []) ≡ line (decimal cmd) (dim_word d) (decimal key) (signed_decimal delta)
+moved_record cmd d key delta few low fits = plain_record (decimal cmd) (dim_word d) (decimal key) (signed_decimal delta) (plain_decimal cmd few) (plain_name d) (plain_decimal key low) (plain_signed delta fits)

@@ -2,17 +2,10 @@
 use Rattle.std.specs.Prelude.{ℕ, List, [], ◌∷◌, ◌++◌, codes}
 use Rattle.std.specs.List.{flat_map}
 use Rattle.std.specs.Fmt.{decimal, signed_decimal}
-use Rattle.ob_post.specs.declared.Dim.{Dim}
-use Rattle.ob_post.specs.declared.Dim.TheVariants.{Cause, Feeder, Day}
+use Rattle.ob_post.specs.Keys.{dim_word}
 use Rattle.ob_post.specs.declared.Moved.{Moved}
 use Rattle.ob_book.specs.Acts.{ActState}
 use Rattle.ob_store.specs.MovingOut.{Numbered, all_moves}
-
--- the name of a dimension
-abbrev pub dim_name : Dim → List ℕ
-dim_name Cause = codes "cause"
-dim_name Feeder = codes "feeder"
-dim_name Day = codes "day"
 
 -- the fields of a line with commas between them, and a line feed behind
 abbrev pub line : List ℕ → List ℕ → List ℕ → List ℕ → List ℕ
@@ -20,7 +13,7 @@ line cmd dim key delta = cmd ++ (codes "," ++ (dim ++ (codes "," ++ (key ++ (cod
 
 -- the line of an amount that the command of a number moved
 abbrev pub moved_line : ℕ → Moved → List ℕ
-moved_line cmd m = line (decimal cmd) (dim_name m.dim) (decimal m.key) (signed_decimal m.delta)
+moved_line cmd m = line (decimal cmd) (dim_word m.dim) (decimal m.key) (signed_decimal m.delta)
 
 -- the names of the columns
 abbrev pub header : List ℕ

@@ -2,21 +2,18 @@
 ghost use Rattle.std.specs.Prelude.{◌≡◌, map, string_bytes, IfOk};
 ghost use Rattle.std.specs.Fmt.{decimal, signed_decimal};
 ghost use Rattle.csv.specs.Writing.{default_writer, row_text};
-ghost use Rattle.ob_jobs.specs.Text.{dim_name, moved_line};
+ghost use Rattle.ob_post.specs.Keys.{dim_word};
+ghost use Rattle.ob_jobs.specs.Text.{moved_line};
 
 use csv::{Error, WriterBuilder};
 use ob_post::{Dim, Moved};
 use std::alloc::Global;
 
-/// The name of a dimension.
+/// The bytes of the word for a dimension.
 fn name_of(dim: Dim) -> &'static [u8]
-    ensures { result.now ≡ dim_name dim }
+    ensures { result.now ≡ dim_word dim }
 {
-    match dim {
-        Dim::Cause => b"cause",
-        Dim::Feeder => b"feeder",
-        Dim::Day => b"day",
-    }
+    dim.word().as_bytes()
 }
 
 /// The text of one record.

@@ -1,9 +1,9 @@
 //! The changes of amounts that a command made or would make, as JSON.
 ghost use Rattle.std.specs.Prelude.{◌≡◌, IfOk, map};
 ghost use Rattle.serde_json.specs.View.{view};
-ghost use Rattle.ob_json.specs.Moves.{dim_word, move_data, moves_data};
+ghost use Rattle.ob_json.specs.Moves.{move_data, moves_data};
 
-use ob_post::{Dim, Moved};
+use ob_post::Moved;
 use serde_json::{Value, json};
 use std::alloc::{AllocError, Global};
 
@@ -21,15 +21,5 @@ pub(crate) fn moves(alloc: Global, moved: &[Moved]) -> Result<Value, AllocError>
 fn one_move(alloc: Global, row: &Moved) -> Result<Value, AllocError>
     ensures { IfOk result (λ v. view v ≡ move_data row.now) }
 {
-    json!(in alloc; [word_of_dim(row.dim), row.key, row.delta])
-}
-
-fn word_of_dim(dim: Dim) -> &'static str
-    ensures { result.now ≡ dim_word dim }
-{
-    match dim {
-        Dim::Cause => "cause",
-        Dim::Feeder => "feeder",
-        Dim::Day => "day",
-    }
+    json!(in alloc; [row.dim.word(), row.key, row.delta])
 }

@@ -10,7 +10,7 @@ ghost use Rattle.ob_json.specs.Totals.{has_amount, row_data, rows_data, totals_d
 ghost use Rattle.ob_json.specs.Totals as definition;
 
 use ob_base::Stop;
-use ob_post::{Dim, Postings};
+use ob_post::{CAUSES, Dim, FEEDERS, Postings};
 use serde_json::{Value, json};
 use std::alloc::{AllocError, Global};
 
@@ -35,9 +35,9 @@ fn totals(alloc: Global, postings: &Postings, days: u16) -> Result<Value, AllocE
         (day_count postings.now) (total_of postings.now Total)) }
 {
     json!(in alloc; {
-        "cause": rows(alloc, postings, Dim::Cause, 0, 64)?,
+        "cause": rows(alloc, postings, Dim::Cause, 0, CAUSES)?,
         "day": rows(alloc, postings, Dim::Day, 0, days)?,
-        "feeder": rows(alloc, postings, Dim::Feeder, 1, 256)?,
+        "feeder": rows(alloc, postings, Dim::Feeder, 1, FEEDERS + 1)?,
         "total": postings.total(Dim::Day)
     })
 }

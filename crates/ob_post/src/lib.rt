@@ -23,6 +23,12 @@ pub use posting::Posting;
 pub use postings::Postings;
 pub use run_amounts::{amounts, post_run, post_runs};
 
+/// The number of causes: 0 (unassigned) to 63.
+pub const CAUSES: u16 = 64;
+
+/// The number of home feeders: 1 to 255.
+pub const FEEDERS: u16 = 255;
+
 /// The most days that postings may have.
 pub const MOST_DAYS: u16 = 366;
 
@@ -39,7 +45,7 @@ pub enum Dim {
 
 impl Dim {
     ghost use Rattle.std.specs.Prelude.{◌≡◌};
-    ghost use Rattle.ob_post.specs.Keys.{dim_number};
+    ghost use Rattle.ob_post.specs.Keys.{dim_number, dim_word};
 
     /// The number of the dimension, from 1 to 3.
     pub fn number(&self) -> u8
@@ -49,6 +55,17 @@ impl Dim {
             Dim::Cause => 1,
             Dim::Feeder => 2,
             Dim::Day => 3,
+        }
+    }
+
+    /// The word for the dimension in texts.
+    pub fn word(&self) -> &'static str
+        ensures { result.now ≡ dim_word self.now }
+    {
+        match self {
+            Dim::Cause => "cause",
+            Dim::Feeder => "feeder",
+            Dim::Day => "day",
         }
     }
 }

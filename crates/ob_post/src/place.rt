@@ -3,16 +3,16 @@ ghost use Rattle.std.specs.Prelude.{◌≡◌, ◌<◌};
 ghost use Rattle.ob_post.specs.Keys.{IsKey};
 ghost use Rattle.ob_post.specs.Places.{place_of as the_place_of};
 
-use crate::{Dim, MOST_DAYS};
+use crate::{CAUSES, Dim, FEEDERS, MOST_DAYS};
+
+/// The place of feeder 1, the first one.
+pub const FIRST_FEEDER: usize = CAUSES as usize;
 
 /// The number of places of causes and feeders.
-pub const FIXED_PLACES: usize = 64 + 255;
+pub const FIXED_PLACES: usize = FIRST_FEEDER + FEEDERS as usize;
 
 /// The most places that there are.
 pub const MOST_PLACES: usize = FIXED_PLACES + MOST_DAYS as usize;
-
-/// The place of feeder 1, the first one.
-pub const FIRST_FEEDER: usize = 64;
 
 /// The place of a key.
 pub fn place_of(dim: Dim, key: u16) -> usize

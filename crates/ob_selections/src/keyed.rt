@@ -14,6 +14,7 @@ use ob_base::{Second, Stop};
 use ob_book::Book;
 use ob_index::Which;
 use ob_net::Net;
+use ob_post::{CAUSES, FEEDERS};
 use ob_sweep::Timeline;
 use std::alloc::Global;
 
@@ -32,9 +33,9 @@ pub fn places_of<T: Timeline>(book: &Book<T>, by: By) -> u16
 {
     match by {
         By::Whole => 1,
-        By::Feeder => 256,
+        By::Feeder => FEEDERS + 1,
         By::Month | By::Day => book.period().days(),
-        By::Cause => 64,
+        By::Cause => CAUSES,
         By::Section => book.net().nodes(),
     }
 }

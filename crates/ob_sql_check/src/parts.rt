@@ -14,7 +14,7 @@ use ob_base::Stop;
 use ob_book::Book;
 use ob_cust::Roll;
 use ob_index::Marks;
-use ob_post::{Dim, Postings};
+use ob_post::{CAUSES, Dim, FEEDERS, Postings};
 use ob_sheet::Sheet;
 use ob_sql_read::{Listed, holds};
 use ob_sql_rows::{
@@ -193,7 +193,7 @@ impl<'b, T: Timeline> Listed for Causes<'b, T> {
     fn count(&self) -> usize {
         // This call's contract states that there is a place for each code.
         let _ = self.book.accepted();
-        64
+        usize::from(CAUSES)
     }
 
     fn has_row(&self, at: usize) -> bool {
@@ -324,10 +324,10 @@ impl<'b> Listed for Amounts<'b> {
 }
 
 /// The number of causes. They come before the feeders.
-const FIRST_FEEDER: usize = 64;
+const FIRST_FEEDER: usize = CAUSES as usize;
 
 /// The number of causes and feeders together. They come before the days.
-const FIRST_DAY: usize = 319;
+const FIRST_DAY: usize = FIRST_FEEDER + FEEDERS as usize;
 
 /// Returns the key at a place among all keys, for a period of `days` days: the causes from 0, then
 /// the feeders from 1, then the days from 0.

@@ -9,16 +9,10 @@ ghost use Rattle.ob_sql_write.specs.NewBook.{LetsHeading, LetsNew, LetsZeros, ne
 
 use ob_base::Stop;
 use ob_net::grid;
-use ob_post::Dim;
+use ob_post::{CAUSES, Dim, FEEDERS};
 use ob_sql_rows::{add_cause, add_meta, add_node, add_posting, create_tables};
 use ob_state::unassigned;
 use sqlite::{Alter, Transaction};
-
-/// The number of codes for causes, from 0 on.
-const CAUSES: u16 = 64;
-
-/// The number of home feeders, from 1 on.
-const FEEDERS: u16 = 255;
 
 /// Creates the tables of a new book. Fails if one of them exists already.
 pub(crate) fn write_new<S: Alter>(

@@ -31,4 +31,4 @@ pub use state::State;
 pub const MOST_COMMANDS: u32 = 1_000_000;
 
 /// The largest number of causes, the unassigned one included.
-pub const MOST_CAUSES: usize = 64;
+pub const MOST_CAUSES: usize = ob_post::CAUSES as usize;
