@@ -9,6 +9,7 @@ from collections import Counter, defaultdict
 from collections.abc import Iterable, Iterator
 from dataclasses import dataclass, field, replace
 
+from outage_tools.errors import BookError
 from outage_tools.keys import Keys
 from outage_tools.normal_state import SOURCE
 from outage_tools.oms.complaints import BadRow, Complaints
@@ -21,6 +22,9 @@ from outage_tools.sections.model import DeviceRow, Model, NodeRow
 from outage_tools.sections.naming import told_apart
 from outage_tools.sections.placing import Placed
 from outage_tools.zone import Zone
+
+IN_ORDER = "exports go in by the order of their moments"
+LAST_RUN = "did this export go in already? Else name the folder of the last one that did"
 
 
 @dataclass(frozen=True)
@@ -125,6 +129,27 @@ def kept_names(
     return found
 
 
+def renamed_feeders(
+    there: There, of_area: dict[int, str], kept: dict[int, str], earlier: dict[str, int]
+) -> dict[str, int]:
+    """Circuits under another name: new ones with the feeder that most of their sections have in the book, if no circuit of the export
+    is that feeder. Where circuits are numbers each is a feeder of its own."""
+    now = {*of_area.values()}
+    free = {number for name, number in earlier.items() if name not in now}
+    if all(name == str(number) for name, number in earlier.items()):
+        return {}
+    votes = Counter(
+        (of_area[area], feeder)
+        for area, node in kept.items()
+        if of_area.get(area, "") not in ("", *earlier) and (feeder := there.nodes[node]) in free
+    )
+    found: dict[str, int] = {}
+    for (circuit, feeder), _ in sorted(votes.items(), key=lambda each: (-each[1], each[0])):
+        if feeder is not None and circuit not in found and feeder not in found.values():
+            found[circuit] = feeder
+    return found
+
+
 # Rows.
 
 
@@ -144,6 +169,7 @@ class Change:
 
     def apply(self) -> None:
         """Changes the model's rows, and tells what no row says."""
+        self.check_order()
         self.check_customers()
         self.check_nodes()
         devices = [row for each in self.model.devices for row in self.rows_of(each)]
@@ -155,6 +181,19 @@ class Change:
                 devices.append(self.ended(name, name))
         self.model.devices = devices
         self.model.has_lives = True
+
+    def check_order(self) -> None:
+        """Nothing of the book's network begins after the second of this export: it would be put before a later one."""
+        later = {name: life.since for name, life in self.there.devices.items() if life.since > self.there.at}
+        told = False
+        for label, names in self.names.items():
+            for name in (each for each in names if each in later):
+                text = f"{name} begins in the book at {self.there.text(later[name])}, after --at: {IN_ORDER}"
+                self.complaints.add(self.spot_of(label), text)
+                told = True
+        if later and not told:
+            name, since = min(later.items(), key=lambda each: (each[1], each[0]))
+            raise BookError(f"the device {name} begins in the book at {self.there.text(since)}, after --at: {IN_ORDER}")
 
     def check_customers(self) -> None:
         """A customer stays on its section."""
@@ -200,15 +239,9 @@ class Change:
             if (life.ends, life.is_closed) == (frozenset(row.ends), row.is_closed):
                 yield replace(row, name=living)
                 return
-            if life.since >= there.at:
-                spot = (
-                    self.model.raw.edges[row.label].spot
-                    if row.label in self.model.raw.edges
-                    else self.spot_of_meter(row.label)
-                )
-                self.complaints.add(
-                    spot, f"{living} begins in the book at --at, and is otherwise here: give a later --at"
-                )
+            if life.since == there.at:
+                text = f"{living} begins in the book at --at, and is otherwise here: give a later --at"
+                self.complaints.add(self.spot_of(row.label), text)
             yield self.ended(living, row.label)
         fresh = next((name for name in names if name not in there.devices), None) or self.new_name(row.label, names)
         if fresh not in names:
@@ -219,8 +252,10 @@ class Change:
         )
         yield replace(row, name=fresh, since=there.text(there.at))
 
-    def spot_of_meter(self, label: str) -> Spot:
-        return next(each.spot for each in self.model.raw.customers if each.meter == label)
+    def spot_of(self, label: str) -> Spot:
+        """The row of an edge, or of a customer behind a meter."""
+        edge = self.model.raw.edges.get(label)
+        return edge.spot if edge else next(each.spot for each in self.model.raw.customers if each.meter == label)
 
     def ended(self, name: str, label: str) -> DeviceRow:
         life, there = self.there.devices[name], self.there
@@ -228,13 +263,17 @@ class Change:
         return DeviceRow(name, label, there.ends[name], life.is_closed, since, there.text(there.at))
 
     def new_name(self, label: str, names: list[str]) -> str:
-        """The first name of a device with a number that nothing has."""
-        told = (*self.names.values(), *self.model.gone.values())
-        taken = {*self.there.devices, *self.there.nodes, *(each for listed in told for each in listed)}
+        """The first name of a device with a number that nothing has. If the book has a device of such a name that the earlier run
+        doesn't know, another export went in since then."""
+        told = {each for listed in (*self.names.values(), *self.model.gone.values()) for each in listed}
         for number in range(2, 1_000):
             name = f"{names[0]}-{number}"
             name = name if len(name) <= MOST_NAME else told_apart(name, f"{label} {number}")
-            if name not in taken:
+            if name in self.there.devices and name not in told:
+                text = f"the book has {name}, which the folder of --as doesn't know: {LAST_RUN}"
+                self.complaints.add(self.spot_of(label), text)
+                told.add(name)
+            if name not in told and name not in self.there.nodes:
                 return name
         raise BadRow(f"{label} has too many names")
 

@@ -54,6 +54,9 @@ class Model:
     names: dict[str, list[str]] = field(default_factory=dict)  # of devices, by their labels: the first one first
     of_row: dict[int, str] = field(default_factory=dict)  # labels, by the rows of tickets
     gone: dict[str, list[str]] = field(default_factory=dict)  # of devices that an earlier run had
+    gone_feeders: dict[str, int] = field(
+        default_factory=dict
+    )  # of circuits that it had: no other one gets their numbers
     has_lives: bool = False  # rows of devices may tell a life
     meters: dict[str, str] = field(
         default_factory=dict
