@@ -87,7 +87,7 @@ class Loading:
     def run(self, folder: Path) -> convert.Run:
         """A run of outagebook-from-oms over a folder's files, which are of this tool's own form; the causes are of the user's."""
         paths = {each: str(path) if (path := folder / f"{each}.csv").exists() else None for each in EXPORTS}
-        words = argparse.Namespace(**{**vars(self.args), **paths, "first": None, "days": None})
+        words = argparse.Namespace(**vars(self.args) | paths | {"first": None, "days": None})
         own = Format(dates=self.reading.format.dates)
         return convert.Run(words, convert.conversion_of(words, self.known), own, {"causes": self.reading.format})
 
