@@ -22,7 +22,9 @@ class Watch:
     edges: dict[str, RawEdge] = field(default_factory=dict)
     beside: dict[str, list[tuple[str, str]]] = field(default_factory=dict)
     is_closed: dict[str, bool] = field(default_factory=dict)
-    transformers: dict[int, str] = field(default_factory=dict)
+    numbers: dict[str, list[int]] = field(default_factory=dict)  # of customers, by their transformers
+    on: set[str] = field(default_factory=set)  # transformers with supply
+    is_new: bool = True  # the network changed since anybody looked
     out: dict[int, tuple[int, int]] = field(default_factory=dict)
     found: dict[int, list[Interruption]] = field(default_factory=lambda: defaultdict(list))
 
@@ -39,8 +41,9 @@ class Watch:
         for name, edge in export.edges.items():
             self.beside[edge.a].append((name, edge.b))
             self.beside[edge.b].append((name, edge.a))
+        self.numbers, self.is_new = defaultdict(list), True
         for each in export.register:
-            self.transformers[each.number] = each.transformer
+            self.numbers[each.transformer].append(each.number)
             if each.number not in self.found:
                 self.found[each.number] = []
                 self.out[each.number] = FIRST, NOBODY
@@ -58,15 +61,20 @@ class Watch:
     def look(self, second: int, cause: int) -> None:
         """Notes who went out or came back at this second."""
         reached = self.supplied()
-        for number, transformer in self.transformers.items():
-            edge = self.edges.get(transformer)
-            is_on = edge is not None and self.is_closed[transformer] and edge.a in reached
-            if is_on and number in self.out:
-                since, why = self.out.pop(number)
-                if since < second:
-                    self.found[number].append((since, second, why))
-            elif not is_on:
-                self.out.setdefault(number, (second, cause))
+        on = {
+            name
+            for name in self.numbers
+            if name in self.edges and self.is_closed[name] and self.edges[name].a in reached
+        }
+        for transformer in self.numbers.keys() if self.is_new else on ^ self.on:
+            for number in self.numbers[transformer]:
+                if transformer in on and number in self.out:
+                    since, why = self.out.pop(number)
+                    if since < second:
+                        self.found[number].append((since, second, why))
+                elif transformer not in on:
+                    self.out.setdefault(number, (second, cause))
+        self.on, self.is_new = on, False
 
 
 def counted(year: Year) -> dict[int, list[Interruption]]:

@@ -84,6 +84,9 @@ class Year:
 
     # Looking at the network.
 
+    def last_name(self, circuit: str) -> str:
+        return next((name for name, first in self.first_name.items() if first == circuit), circuit)
+
     def of(self, circuit: str, *kinds: str) -> list[RawEdge]:
         return [each for each in self.edges.values() if each.circuit == circuit and each.kind in kinds]
 
@@ -119,10 +122,10 @@ class Year:
                 if other not in before and other not in (start.a, start.b):
                     before[other] = edge
                     waiting.append(other)
-        node, found = self.grid.trunks[circuit][-1], []
-        while edge := before.get(node):
-            found.append(edge)
-            node = edge.b if edge.a == node else edge.a
+        node, found = self.grid.trunks[circuit][-1], list[RawEdge]()
+        while node in before:
+            found.append(before[node])
+            node = found[-1].b if found[-1].a == node else found[-1].a
         return found[::-1]
 
     def customers_of(self, transformer: str) -> list[Service]:
@@ -385,8 +388,8 @@ def devices_retired(year: Year, at: int) -> list[str]:
         if each.kind == "line" and far:
             del year.edges[each.name]
     del year.edges[transformer.name]
-    for each in year.customers_of(transformer.name):
-        year.end(each, at)
+    for customer in year.customers_of(transformer.name):
+        year.end(customer, at)
     return [fuse.name, transformer.name]
 
 
@@ -475,9 +478,9 @@ def fuse_again(year: Year, at: int) -> list[str]:
     del year.edges[recloser.name]
     switch = year.make("switch", recloser.a, recloser.b, "1", recloser.circuit)
     transformers = [each.name for each in year.of(circuit, "transformer") if year.customers_of(each.name)]
-    moved = year.customers_of(transformers[1])[0]
-    year.end(moved, at)
-    year.connect(transformers[2], max(at, moved.since))
+    customer = year.customers_of(transformers[1])[0]
+    year.end(customer, at)
+    year.connect(transformers[2], max(at, customer.since))
     return [fuse.name, recloser.name, switch.name, *transformers[1:3]]
 
 

@@ -6,7 +6,7 @@ be said is refused by its row, or told.
 """
 
 from collections import Counter, defaultdict
-from collections.abc import Iterable, Iterator
+from collections.abc import Iterable, Iterator, Set
 from dataclasses import dataclass, field, replace
 
 from outage_tools.errors import BookError
@@ -18,9 +18,11 @@ from outage_tools.oms.fields import moment_text, read_moment, read_zone
 from outage_tools.oms.files import Row, Spot
 from outage_tools.oms.known import Known, Service
 from outage_tools.sections.cut import GRID_AREA, Cut
+from outage_tools.sections.edges import Customer
 from outage_tools.sections.model import DeviceRow, Model, NodeRow
 from outage_tools.sections.naming import told_apart
 from outage_tools.sections.placing import Placed
+from outage_tools.sections.reading import SERVICE
 from outage_tools.zone import Zone
 
 IN_ORDER = "exports go in by the order of their moments"
@@ -76,8 +78,27 @@ class There:
             return None if found is None else self.at_supply(found)
         numbers = self.keys.numbers.get(customer, [])
         services = [self.at_supply(self.customers[number]) for number in numbers if number in self.customers]
-        now = [each for each in services if each.since <= self.at and (each.until is None or self.at < each.until)]
+        now = [each for each in services if each.has(self.at)]
         return next(iter([*now, *reversed(services)]), None)
+
+    def second_of(self, customer: Customer, column: str) -> int | None:
+        """The beginning or the end of a row's service, as far as it can be read: outagebook-from-oms refuses what can't be."""
+        told = dict(zip(SERVICE, customer.service))
+        try:
+            text, hour = told[column], told[f"{column}_hour"]
+            return read_moment(text, hour, self.zone, column, self.dates) if text else None
+        except BadRow:
+            return None
+
+    def is_later(self, customer: Customer) -> bool:
+        """A row of a key's next service, which begins on a section of its own."""
+        since = self.second_of(customer, "since") if self.keys is not None else None
+        return since is not None and since >= self.at
+
+    def past_section(self, customer: Customer) -> str | None:
+        """The section of the book of a customer whose service is over."""
+        until, service = self.second_of(customer, "until"), self.service_of(customer.number)
+        return service.section if service is not None and until is not None and until <= self.at else None
 
     def text(self, second: int) -> str:
         return moment_text(second, self.zone)
@@ -108,8 +129,9 @@ def kept_names(
     in it in the earlier run."""
     votes: dict[tuple[int, str], list[int]] = defaultdict(lambda: [0, 0])
     for number, area in placed.area.items():
-        service = there.service_of(cut.raw.customers[number].number)
-        if service is not None:
+        customer = cut.raw.customers[number]
+        service = there.service_of(customer.number)
+        if service is not None and not there.is_later(customer):
             votes[area, service.section][0] += 1
     for area, edges in cut.inside().items():
         for edge in edges:
@@ -200,7 +222,7 @@ class Change:
         for number, section in self.model.sections.items():
             customer = self.model.raw.customers[number]
             before = self.there.service_of(customer.number)
-            if before is not None and before.section != section:
+            if before is not None and before.section != section and not self.there.is_later(customer):
                 self.complaints.add(
                     customer.spot,
                     f"customer {customer.number} is on {before.section} in the book, and on {section} in this export: end its"
@@ -220,13 +242,19 @@ class Change:
             nodes.append(node)
         self.model.nodes = nodes
         gone = self.there.nodes.keys() - {node.name for node in nodes} - self.there.supply.keys()
-        at = self.there.at
-        served = (each for each in self.there.customers.values() if each.since <= at)
-        counts = Counter(each.section for each in served if each.until is None or at < each.until)
-        for name in sorted(gone & counts.keys()):
+        for name, count in sorted(self.left_on(gone).items()):
             self.said.append(
-                f"{name} isn't in the export any more; customers of the book there, without supply: {counts[name]}"
+                f"{name} isn't in the export any more; customers of the book there, without supply: {count}"
             )
+
+    def left_on(self, gone: Set[str]) -> Counter[str]:
+        """The customers of the book on sections that aren't there any more, but for those whose service the register ends."""
+        there, model = self.there, self.model
+        counts = Counter(each.section for each in there.customers.values() if each.has(there.at))
+        for number, section in model.sections.items():
+            if section in gone and (service := there.service_of(model.raw.customers[number].number)):
+                counts[section] -= service.has(there.at)
+        return Counter({name: counts[name] for name in gone if counts[name] > 0})
 
     def rows_of(self, row: DeviceRow) -> Iterator[DeviceRow]:
         """The row of a device that is as it was; else of its end and of its beginning under a further name."""

@@ -46,7 +46,8 @@ class Maker:
         of_area = area_circuits(cut, circuits, reading.complaints)
         rings = list(rings_of(cut))
         looped = frozenset(edge.name for ring in rings for edge in ring) if self.is_meshed else frozenset()
-        placed = placed_of(cut, reading.complaints, looped)
+        past = self.there.past_section if self.there else lambda _: None
+        placed = placed_of(cut, reading.complaints, looped, past)
         refuse_without_feeder(cut, placed, of_area, reading.complaints)
         left = look_at_islands(cut, placed, {*named.edges} | self.in_book(), reading.complaints, notes)
         look_at_loops(cut, rings, of_area, self.is_meshed, reading.complaints, notes)
@@ -159,7 +160,7 @@ class Naming:
         for meter, (area, own) in self.meters.items():
             ends = self.of_node[area], self.of_node[own]
             model.devices.append(DeviceRow(model.names[meter][0], meter, ends, True))
-        model.sections = {number: self.of_node[area] for number, area in placed.area.items()}
+        model.sections = {number: self.of_node[area] for number, area in placed.area.items()} | placed.past
         model.became = dict(self.what_became())
         return model
 
