@@ -23,12 +23,18 @@ def month_begin(month: int) -> int:
 
 @dataclass(frozen=True)
 class Service:
-    """A row of the register."""
+    """A row of the register. Services of one customer have one key."""
 
     number: int
     transformer: str
     since: int
     until: int | None
+    key: str
+
+
+def key_of(number: int) -> str:
+    """The key of a customer whose first number this is."""
+    return f"DE{number:011d}"
 
 
 @dataclass(frozen=True)
@@ -128,8 +134,15 @@ class Year:
             node = found[-1].b if found[-1].a == node else found[-1].a
         return found[::-1]
 
-    def customers_of(self, transformer: str) -> list[Service]:
-        return [each for each in self.register if each.transformer == transformer and each.until is None]
+    def customers_of(self, transformer: str, at: int) -> list[Service]:
+        """Those who are in service then, without an end."""
+        found = (each for each in self.register if each.transformer == transformer and each.until is None)
+        return [each for each in found if each.since < at]
+
+    def is_settled(self, transformer: str, at: int) -> bool:
+        """It has customers, and none who begins or ends after this second."""
+        last = [max(each.since, each.until or 0) for each in self.register if each.transformer == transformer]
+        return bool(self.customers_of(transformer, at)) and max(last) < at
 
     # Changing it.
 
@@ -162,7 +175,14 @@ class Year:
         return self.make(kind, middle, line.b, "1", line.circuit)
 
     def connect(self, transformer: str, since: int) -> None:
-        self.register.append(Service(max(each.number for each in self.register) + 1, transformer, since, None))
+        number = max(each.number for each in self.register) + 1
+        self.register.append(Service(number, transformer, since, None, key_of(number)))
+
+    def move(self, service: Service, transformer: str, at: int) -> None:
+        """A customer's service ends, and another one begins elsewhere."""
+        self.end(service, at)
+        self.connect(transformer, max(at, service.since))
+        self.register[-1] = replace(self.register[-1], key=service.key)
 
     def end(self, service: Service, at: int) -> None:
         self.register[self.register.index(service)] = replace(service, until=max(at, service.since + 1))
@@ -242,6 +262,16 @@ class Year:
         for each in self.exports[month].register:
             yield f"{each.number};{each.transformer};{moment(each.since)};{moment(each.until) if each.until else ''}"
 
+    def keyed_lines(self, month: int) -> Iterator[str]:
+        """A register that calls customers by their keys: one row for all their services, with what supplies them now."""
+        services: dict[str, list[Service]] = {}
+        for each in self.exports[month].register:
+            services.setdefault(each.key, []).append(each)
+        yield "customer;transformer;since;until"
+        for key, listed in services.items():
+            first, last = listed[0], listed[-1]
+            yield f"{key};{last.transformer};{moment(first.since)};{moment(last.until) if last.until else ''}"
+
     def oms_lines(self, month: int) -> Iterator[str]:
         """The tickets of the year up to the end of a month, as they are told then."""
         yield "ticket;step;device;out;restored;cause;status"
@@ -262,7 +292,7 @@ def made_year(seed: int, substations: int, feeders: int, length: int, per_month:
     """A utility with about `substations * feeders * length * 8` edges, and more where each line is several spans."""
     year = Year(made_grid(seed, substations, feeders, length, 0))
     year.take(0)
-    year.register = [Service(number, *each) for number, each in year.grid.customers.items()]
+    year.register = [Service(number, *each, key_of(number)) for number, each in year.grid.customers.items()]
     for line in [each for each in year.edges.values() if each.kind == "line" and spans > 1]:
         cut_into_spans(year, line, spans)
     year.keep(FIRST)
@@ -379,7 +409,8 @@ def recloser_in_trunk(year: Year, _: int) -> list[str]:
 def devices_retired(year: Year, at: int) -> list[str]:
     """A line takes the place of a fuse, and a transformer is taken down with its last customers."""
     circuit = circuits(year)[3]
-    fuse, transformer = year.of(circuit, "fuse")[0], year.of(circuit, "transformer")[-1]
+    fuse = year.of(circuit, "fuse")[0]
+    transformer = [each for each in year.of(circuit, "transformer") if year.is_settled(each.name, at)][-1]
     del year.edges[fuse.name]
     year.make("line", fuse.a, fuse.b, circuit=circuit)
     behind = [each for end in (transformer.a, transformer.b) for each in year.at_node(end)]
@@ -388,18 +419,17 @@ def devices_retired(year: Year, at: int) -> list[str]:
         if each.kind == "line" and far:
             del year.edges[each.name]
     del year.edges[transformer.name]
-    for customer in year.customers_of(transformer.name):
+    for customer in year.customers_of(transformer.name, at):
         year.end(customer, at)
     return [fuse.name, transformer.name]
 
 
 def customers_moved(year: Year, at: int) -> list[str]:
     """Three customers go to another transformer: their numbers end, and others begin."""
-    transformers = [each.name for each in year.of(circuits(year)[1], "transformer") if year.customers_of(each.name)]
+    transformers = [each.name for each in year.of(circuits(year)[1], "transformer") if year.customers_of(each.name, at)]
     old, new = transformers[0], transformers[-1]
-    for each in year.customers_of(old)[:3]:
-        year.end(each, at)
-        year.connect(new, max(at, each.since))
+    for each in year.customers_of(old, at)[:3]:
+        year.move(each, new, at)
     return [old, new]
 
 
@@ -468,7 +498,8 @@ def circuit_added(year: Year, at: int) -> list[str]:
 
 
 def fuse_again(year: Year, at: int) -> list[str]:
-    """The fuse that a line had replaced is there again, a switch takes the recloser's place, and customers are moved."""
+    """The fuse that a line had replaced is there again, a switch takes the recloser's place, a customer is moved, and one of July's goes
+    back."""
     circuit = circuits(year)[3]
     fuse = next(each for each in year.exports[5].edges.values() if each.name not in year.exports[6].edges)
     line = next(each for each in year.edges.values() if {each.a, each.b} == {fuse.a, fuse.b})
@@ -477,10 +508,11 @@ def fuse_again(year: Year, at: int) -> list[str]:
     recloser = next(each for each in year.edges.values() if each.kind == "recloser")
     del year.edges[recloser.name]
     switch = year.make("switch", recloser.a, recloser.b, "1", recloser.circuit)
-    transformers = [each.name for each in year.of(circuit, "transformer") if year.customers_of(each.name)]
-    customer = year.customers_of(transformers[1])[0]
-    year.end(customer, at)
-    year.connect(transformers[2], max(at, customer.since))
+    transformers = [each.name for each in year.of(circuit, "transformer") if year.customers_of(each.name, at)]
+    year.move(year.customers_of(transformers[1], at)[0], transformers[2], at)
+    back = next(each for each in year.register if each.key != key_of(each.number) and each.until is None)
+    before = next(each for each in year.register if each.key == back.key)
+    year.move(back, before.transformer, at)
     return [fuse.name, recloser.name, switch.name, *transformers[1:3]]
 
 

@@ -2,6 +2,7 @@
 edges of each second, customer by customer."""
 
 import hashlib
+import re
 import shutil
 import unittest
 from collections.abc import Mapping
@@ -12,7 +13,7 @@ from pathlib import Path
 from outage_tools.compare import Checked, figures_of_table, open_book
 from outage_tools.counts import Counts
 from tests import exports, support
-from tests.counted_months import Count, Figures, causes_text, count_of
+from tests.counted_months import Count, Figures, causes_text, count_of, services_of
 from tests.made_grid import DAY, FIRST, PERIOD, moment
 from tests.made_months import CAUSES, MONTHS, Year, made_year
 from tests.network_runs import Cut, rows_of, run
@@ -20,6 +21,7 @@ from tests.test_sections_changed import kept, rows_by
 from tests.test_sections_made import WORDS, by_customer
 
 PROGRAM = str(support.PROGRAM) if support.has_program() else "outagebook"
+SIZE_BY_KEYS = (2, 2, 3, 6, 4)
 SIZE = (1, 2, 3, 20, 12) if support.has_program() else (1, 2, 3, 6, 4)
 
 
@@ -28,11 +30,11 @@ def made() -> Year:
     return made_year(*SIZE)
 
 
-def texts_of(year: Year, month: int) -> dict[str, list[str]]:
+def texts_of(year: Year, month: int, has_keys: bool = False) -> dict[str, list[str]]:
     """The exports of a month's end; of month 0, the network of the year's first second."""
     return {
         "edges": list(year.edge_lines(month)),
-        "customers": list(year.customer_lines(month)),
+        "customers": list(year.keyed_lines(month) if has_keys else year.customer_lines(month)),
         "oms": list(year.oms_lines(month)),
     }
 
@@ -49,46 +51,148 @@ def words_of(year: Year, texts: Mapping[str, list[str]]) -> list[object]:
 class Monthly:
     """A book, and the folders of the runs that went in."""
 
-    def __init__(self, name: str, year: Year) -> None:
-        self.name, self.year = name, year
+    def __init__(self, name: str, year: Year, has_keys: bool = False) -> None:
+        self.name, self.year, self.has_keys = name, year, has_keys
         self.book = support.folder() / f"{name}.db"
-        for old in support.folder().glob(f"{self.book.name}*"):
-            old.unlink()
         self.causes = support.written("months-causes.csv", causes_text())
-        first = {name: lines for name, lines in texts_of(year, 0).items() if name != "oms"}
-        folder = kept(f"{name}-0", run(*words_of(year, first)))
+
+    def begin(self) -> None:
+        """A book of the network as it was when the year began."""
+        for old in support.folder().glob(f"{self.name}.*"):
+            old.unlink()
+        first = {name: lines for name, lines in texts_of(self.year, 0, self.has_keys).items() if name != "oms"}
+        folder = kept(f"{self.name}-0", run(*words_of(self.year, first)))
         period = ("--first", PERIOD[0], "--days", PERIOD[1], "--zone", PERIOD[2])
-        rows = rows_by(folder, *period)
+        keys = ("--keys", self.book.with_suffix(".keys.csv")) if self.has_keys else ()
+        rows = rows_by(folder, *period, *keys)
         if rows.status:
             raise AssertionError(rows.err)
-        self.said = exports.program_at(PROGRAM, "init", "--book", self.book, *period)
-        text = support.written(f"{name}.rows.csv", rows.out)
-        self.said = exports.program_at(PROGRAM, "import", "--book", self.book, text)
+        exports.program_at(PROGRAM, "init", "--book", self.book, *period)
+        text = support.written(f"{self.name}-rows.csv", rows.out)
+        exports.program_at(PROGRAM, "import", "--book", self.book, text)
+
+    def files(self) -> list[Path]:
+        return sorted(path for path in support.folder().glob(f"{self.name}.*") if not path.name.endswith("-shm"))
+
+    def copy(self, name: str) -> "Monthly":
+        """The same book once more, with the same folders."""
+        for old in support.folder().glob(f"{name}.*"):
+            old.unlink()
+        for file in self.files():
+            shutil.copyfile(file, file.with_name(file.name.replace(self.name, name)))
+        return Monthly(name, self.year)
 
     def folder(self, month: int) -> Path:
-        return support.folder() / f"{self.name}-{month}"
+        return support.folder() / f"{YEARS[self.has_keys]}-{month}"
 
-    def run(
-        self,
-        month: int,
-        texts: Mapping[str, list[str]] | None = None,
-        earlier: int | None = None,
-        to: str | None = None,
-        at: int | None = None,
-    ) -> Cut:
+    def run(self, month: int, texts: Mapping[str, list[str]] | None = None, earlier: int | None = None) -> Cut:
         """The one command with which a month's exports go in."""
-        texts = texts or texts_of(self.year, month)
-        second = self.year.exports[month].at if at is None else at
-        folder = self.folder(month - 1 if earlier is None else earlier)
-        words = ["--as", folder, "--book", self.book, "--at", moment(second), "--program", PROGRAM]
-        words += ["--import", "--causes", self.causes]
-        return run(*words_of(self.year, texts), *words, to=to or f"{self.name}-{month}")
+        folder, at = self.folder(month - 1 if earlier is None else earlier), moment(self.year.exports[month].at)
+        words = ["--as", folder, "--book", self.book, "--at", at, "--import", "--causes", self.causes]
+        exported = words_of(self.year, texts or texts_of(self.year, month, self.has_keys))
+        return run(*exported, *words, "--program", PROGRAM, to=f"{self.name}-{month}")
 
     def sum(self) -> str:
         """Of all that the book's files hold."""
-        files = sorted(support.folder().glob(f"{self.book.name}*"))
-        whole = b"".join(file.name.encode() + file.read_bytes() for file in files if not file.name.endswith("-shm"))
-        return hashlib.sha256(whole).hexdigest()
+        return hashlib.sha256(b"".join(file.name.encode() + file.read_bytes() for file in self.files())).hexdigest()
+
+
+YEARS = ("months", "months-by-key")
+
+
+@lru_cache(maxsize=None)
+def whole_year() -> dict[int, Monthly]:
+    """The book before each month's export, and before the thirteenth that of the whole year."""
+    monthly = Monthly(YEARS[0], made())
+    monthly.begin()
+    found = {}
+    for month in MONTHS:
+        found[month] = monthly.copy(f"before-{month}")
+        done = monthly.run(month)
+        if done.status or not done.out.splitlines()[-1].endswith(" again 0"):
+            raise AssertionError(f"month {month}: {done.out}{done.err}")
+    return found | {13: monthly}
+
+
+class Refused(unittest.TestCase):
+    """What can't go in is told by its row, and leaves the book as it was."""
+
+    def refused(self, before: int, month: int, **changes: object) -> list[str]:
+        """What is told of an export that doesn't go into the book before a month."""
+        book = whole_year()[before].copy("refused")
+        if changes.pop("without_ledger", False):
+            book.book.with_suffix(".exports.csv").unlink()
+        sum_before = book.sum()
+        done = book.run(month, **changes)  # type: ignore[arg-type]
+        self.assertEqual((done.status, done.out, done.files), (1, "", {}), done.err)
+        self.assertEqual(book.sum(), sum_before)
+        return [line.replace(f"{support.folder()}/", "") for line in done.err.removeprefix("error: ").splitlines()]
+
+    def test_an_earlier_month(self) -> None:
+        """By the list beside the book; without it by the devices that began later."""
+        at = [f"{moment(export.at).replace(' ', 'T')}+00:00" for export in made().exports]
+        text = f"refused.exports.csv: row 7: the export of {at[7]} went in, and --at lies before it"
+        self.assertEqual(self.refused(8, 6), [text])
+        self.assertEqual(self.refused(8, 6, earlier=7), [text])
+        said = self.refused(6, 4, earlier=5, without_ledger=True)
+        self.assertEqual(said[0], "nothing was written:")
+        for line in said[1:]:
+            self.assertRegex(
+                line,
+                f"^months-edges.csv: row [0-9]+: [A-Z0-9-]+ begins in the book at {re.escape(at[5])}, after --at: exports go in"
+                " by the order of their moments$",
+            )
+
+    def test_the_folder_of_another_month(self) -> None:
+        text = (
+            "refused.exports.csv: row 7: the last export that went in is that of months-7, and --as months-5 is another"
+        )
+        self.assertEqual(self.refused(8, 8, earlier=5), [text])
+
+    def test_the_same_month_again(self) -> None:
+        """Nothing is new, or it is told which device the folder before doesn't know."""
+        for month, earlier in ((5, 5), (7, 7), (7, 6)):
+            done = whole_year()[month + 1].copy("again").run(month, earlier=earlier)
+            self.assertEqual((done.status, done.out.splitlines()[-1]), (0, "added 0 again 0"), done.err)
+        said = self.refused(6, 5)
+        self.assertGreater(len(said), 1)
+        for line in said[1:]:
+            self.assertRegex(
+                line,
+                "^months-edges.csv: row [0-9]+: the book has [A-Z0-9-]+-2, which the folder of --as doesn't know: did this"
+                " export go in already[?] Else name the folder of the last one that did$",
+            )
+
+    def planted(self, name: str, row: int, old: str, new: str) -> list[str]:
+        """What is told of July's export with one mistake."""
+        texts = texts_of(made(), 7)
+        self.assertIn(old, texts[name][row])
+        texts[name][row] = texts[name][row].replace(old, new)
+        said = self.refused(7, 7, texts=texts)
+        self.assertEqual(said[0], "nothing was written:")
+        return said[1:]
+
+    def test_a_mistake(self) -> None:
+        texts = texts_of(made(), 7)
+        fuse = next(row for row, line in enumerate(texts["edges"]) if ";fuse;" in line and ";1;" in line)
+        text = f"months-edges.csv: row {fuse}: a fuse without a normal position"
+        self.assertEqual(self.planted("edges", fuse, ";1;", ";;"), [text])
+        transformers = [line.split(";")[0] for line in texts["edges"] if ";transformer;" in line]
+        customer = texts["customers"][1].split(";")
+        other = next(each for each in reversed(transformers) if any(f";{each};" in line for line in texts["customers"]))
+        (said,) = self.planted("customers", 1, customer[1], other)
+        self.assertTrue(said.startswith(f"months-customers.csv: row 1: customer {customer[0]} is on S-"), said)
+        self.assertTrue(said.endswith("end its service, and give the one that goes on another number"), said)
+
+    def test_a_mistake_in_the_tickets(self) -> None:
+        """The row is that of the user's file, though it is found in what the cut has made of it."""
+        lines = texts_of(made(), 7)["oms"]
+        row = next(row for row, line in enumerate(lines) if row and line.split(";")[1] == "1" and line.split(";")[4])
+        out, restored, cause = lines[row].split(";")[3:6]
+        (said,) = self.planted("oms", row, f"{out};{restored}", f"{restored};{out}")
+        self.assertRegex(said, f"^months-oms.csv: row {row}: .* lies before out ")
+        (said,) = self.planted("oms", row, f";{cause};", ";METEOR;")
+        self.assertRegex(said, f"^months-oms.csv: row {row}: .*METEOR")
 
 
 class Months(unittest.TestCase):
@@ -101,33 +205,43 @@ class Months(unittest.TestCase):
         self.assertEqual((there.sustained, there.sustained_seconds, there.momentary), counts, which)
 
     def test_a_year(self) -> None:
+        """The register has a row for each service."""
         year = made()
-        monthly = Monthly("months", year)
+        self.check(whole_year()[13], count_of(year), {each.number: each.number for each in services_of(year).values()})
+
+    def test_a_year_by_keys(self) -> None:
+        """The register has a row for each customer, with what supplies it now."""
+        year = made_year(*SIZE_BY_KEYS)
+        monthly = Monthly(YEARS[1], year, True)
+        monthly.begin()
         for month in MONTHS:
-            with self.subTest(month=month):
-                done = monthly.run(month)
-                self.assertEqual(done.status, 0, done.err)
-                self.assertRegex(done.out.splitlines()[-1], "^added [1-9][0-9]* again 0$")
-        count = count_of(year)
+            done = monthly.run(month)
+            self.assertEqual(done.status, 0, done.err)
+        numbers: dict[str, list[int]] = {}
+        for number, key in rows_of(monthly.book.with_suffix(".keys.csv")):
+            numbers.setdefault(key, []).append(int(number))
+        services = sorted(services_of(year).values(), key=lambda each: each.since)
+        self.check(monthly, count_of(year), {each.number: numbers[each.key].pop(0) for each in services})
+        self.assertEqual({*map(len, numbers.values())}, {0})
+
+    def check(self, monthly: Monthly, count: Count, number_of: Mapping[int, int]) -> None:
+        """Each customer's interruptions, each line of the annual table, and the counts of each feeder, cause, month and day."""
         feeders = {name: int(number) for number, name in rows_of(monthly.folder(12) / "feeders.csv")}
-        by_feeder = {feeders[year.last_name(circuit)]: each for circuit, each in count.circuits.items()}
+        by_feeder = {feeders[monthly.year.last_name(circuit)]: each for circuit, each in count.circuits.items()}
         with open_book(str(monthly.book), program=PROGRAM) as found:
             had = by_customer(found)
             for number, listed in count.customers.items():
-                self.assertEqual(had[number], [(since, until) for since, until, _ in listed], number)
-            self.assertEqual(had.keys(), count.customers.keys())
+                self.assertEqual(had.pop(number_of[number]), [(since, until) for since, until, _ in listed], number)
+            self.assertEqual(had, {})
             self.check_table(figures_of_table(found.table), count, by_feeder)
-            self.check_groups(
-                found, "cause", {CAUSES.get(code, "UNASSIGNED"): each for code, each in count.causes.items()}
-            )
+            causes = {CAUSES.get(code, "UNASSIGNED"): each for code, each in count.causes.items()}
+            self.check_groups(found, "cause", causes)
             self.check_groups(found, "month", {f"2025-{month:02d}": each for month, each in count.months.items()})
             self.check_groups(found, "day", {day_text(day): each for day, each in count.days.items()})
-            selected = found.selected("feeder")["all"]
-            self.assertEqual(selected.keys(), {str(number) for number in by_feeder})
-            for number, each in by_feeder.items():
-                self.same(each, selected[str(number)].counts, f"feeder {number}")
-                self.assertEqual(selected[str(number)].counts.with_some, each.with_some)
-                self.assertEqual(selected[str(number)].served, each.served)
+            self.check_groups(found, "feeder", {str(number): each for number, each in by_feeder.items()})
+            for key, rates in found.selected("feeder")["all"].items():
+                each = by_feeder[int(key)]
+                self.assertEqual((rates.counts.with_some, rates.served), (each.with_some, each.served))
 
     def check_groups(self, found: Checked, by: str, groups: dict[str, Figures]) -> None:
         """The program's counts of each cause, month or day."""

@@ -1,8 +1,8 @@
 """A network that changed, against a book: what the book has keeps its names, and devices that are otherwise end and begin anew.
 
 No command changes a device's ends, its normal position, a section's feeder or a customer's section. So a device that is otherwise ends
-at a moment, and another one begins under a further name; sections keep the names under which the book has their customers. What can't
-be said is refused by its row, or told.
+at a moment, and another one begins under a further name; sections keep the names under which the book has their customers; customers
+with keys go on elsewhere under further numbers (moves.py). What can't be said is refused by its row, or told.
 """
 
 from collections import Counter, defaultdict
@@ -10,113 +10,19 @@ from collections.abc import Iterable, Iterator, Set
 from dataclasses import dataclass, field, replace
 
 from outage_tools.errors import BookError
-from outage_tools.keys import Keys
-from outage_tools.normal_state import SOURCE
-from outage_tools.oms.complaints import BadRow, Complaints
+from outage_tools.oms.complaints import BadRow, Complaints, Notes
 from outage_tools.oms.conversion import MOST_NAME
-from outage_tools.oms.fields import moment_text, read_moment, read_zone
+from outage_tools.oms.fields import read_moment, read_zone
 from outage_tools.oms.files import Row, Spot
-from outage_tools.oms.known import Known, Service
 from outage_tools.sections.cut import GRID_AREA, Cut
-from outage_tools.sections.edges import Customer
 from outage_tools.sections.model import DeviceRow, Model, NodeRow
+from outage_tools.sections.moves import MOVED, parts_of
 from outage_tools.sections.naming import told_apart
 from outage_tools.sections.placing import Placed
-from outage_tools.sections.reading import SERVICE
-from outage_tools.zone import Zone
+from outage_tools.sections.there import There
 
 IN_ORDER = "exports go in by the order of their moments"
 LAST_RUN = "did this export go in already? Else name the folder of the last one that did"
-
-
-@dataclass(frozen=True)
-class Life:
-    """A device of the book: the names of its nodes, its normal position, and the seconds of its life."""
-
-    ends: frozenset[str]
-    is_closed: bool
-    since: int
-    until: int | None
-
-    def has(self, second: int) -> bool:
-        return self.since <= second and (self.until is None or second < self.until)
-
-
-@dataclass
-class There:
-    """What the book has, and the second from which the network is as the export has it."""
-
-    zone: Zone
-    at: int
-    nodes: dict[str, int | None] = field(default_factory=dict)  # with the feeders of sections
-    devices: dict[str, Life] = field(default_factory=dict)
-    ends: dict[str, tuple[str, str]] = field(default_factory=dict)
-    customers: dict[int, Service] = field(default_factory=dict)
-    dates: tuple[str, ...] = ()
-    keys: Keys | None = None  # of the customers
-    supply: dict[str, str] = field(
-        default_factory=dict
-    )  # the section that supplies a service, by the one behind its meter
-
-    def take_meters(self, names: Iterable[str]) -> None:
-        """Finds the sections behind meters that are devices of the book (oms/services.py), by the names of the register's meters."""
-        count = Counter(end for ends in self.ends.values() for end in ends)
-        for name in names:
-            ends = self.ends.get(name, ())
-            behind = [end for end in ends if count[end] == 1]
-            if len(behind) == 1:
-                self.supply[behind[0]] = next(end for end in ends if end != behind[0])
-
-    def at_supply(self, service: Service) -> Service:
-        """The service at the section that supplies it, where it is behind its meter."""
-        return replace(service, section=self.supply.get(service.section, service.section))
-
-    def service_of(self, customer: str) -> Service | None:
-        """The service of a customer as the register calls it; of several under one key that of the second, else the last."""
-        if self.keys is None:
-            found = self.customers.get(int(customer)) if customer.isdecimal() else None
-            return None if found is None else self.at_supply(found)
-        numbers = self.keys.numbers.get(customer, [])
-        services = [self.at_supply(self.customers[number]) for number in numbers if number in self.customers]
-        now = [each for each in services if each.has(self.at)]
-        return next(iter([*now, *reversed(services)]), None)
-
-    def second_of(self, customer: Customer, column: str) -> int | None:
-        """The beginning or the end of a row's service, as far as it can be read: outagebook-from-oms refuses what can't be."""
-        told = dict(zip(SERVICE, customer.service))
-        try:
-            text, hour = told[column], told[f"{column}_hour"]
-            return read_moment(text, hour, self.zone, column, self.dates) if text else None
-        except BadRow:
-            return None
-
-    def is_later(self, customer: Customer) -> bool:
-        """A row of a key's next service, which begins on a section of its own."""
-        since = self.second_of(customer, "since") if self.keys is not None else None
-        return since is not None and since >= self.at
-
-    def past_section(self, customer: Customer) -> str | None:
-        """The section of the book of a customer whose service is over."""
-        until, service = self.second_of(customer, "until"), self.service_of(customer.number)
-        return service.section if service is not None and until is not None and until <= self.at else None
-
-    def text(self, second: int) -> str:
-        return moment_text(second, self.zone)
-
-
-def there_of(known: Known, at: str, dates: tuple[str, ...], keys: Keys | None = None) -> There:
-    book = known.book
-    assert book is not None  # it was opened
-    zone = book.period.zone
-    found = There(zone, read_moment(at, "", zone, "--at", dates), customers=known.customers, dates=dates, keys=keys)
-    for node, name in book.nodes.items():
-        if name != SOURCE:
-            found.nodes[name] = book.sections[node].feeder if node in book.sections else None
-    for each in book.devices:
-        ends = book.nodes[each.a], book.nodes[each.b]
-        found.ends[each.name] = ends
-        found.devices[each.name] = Life(frozenset(ends), each.is_closed, each.since, each.until)
-    return found
 
 
 # Names of buses and sections.
@@ -131,7 +37,7 @@ def kept_names(
     for number, area in placed.area.items():
         customer = cut.raw.customers[number]
         service = there.service_of(customer.number)
-        if service is not None and not there.is_later(customer):
+        if service is not None and there.covers(customer):
             votes[area, service.section][0] += 1
     for area, edges in cut.inside().items():
         for edge in edges:
@@ -183,6 +89,7 @@ class Change:
     model: Model
     complaints: Complaints
     said: list[str] = field(default_factory=list)
+    notes: dict[str, Notes] = field(default_factory=dict)  # by their files
 
     @property
     def names(self) -> dict[str, list[str]]:
@@ -218,11 +125,17 @@ class Change:
             raise BookError(f"the device {name} begins in the book at {self.there.text(since)}, after --at: {IN_ORDER}")
 
     def check_customers(self) -> None:
-        """A customer stays on its section."""
+        """A customer stays on its section, or goes on under a further number of its key."""
         for number, section in self.model.sections.items():
             customer = self.model.raw.customers[number]
             before = self.there.service_of(customer.number)
-            if before is not None and before.section != section and not self.there.is_later(customer):
+            is_moved = before is not None and before.section != section and self.there.covers(customer)
+            parts = [] if customer.meter in self.model.meters else parts_of(self.there, customer, section)
+            if parts:
+                self.model.parts[number] = parts
+            if parts and is_moved:
+                self.notes[customer.spot.file].noticed(MOVED, customer.spot)
+            elif before is not None and is_moved:
                 self.complaints.add(
                     customer.spot,
                     f"customer {customer.number} is on {before.section} in the book, and on {section} in this export: end its"
@@ -252,8 +165,9 @@ class Change:
         there, model = self.there, self.model
         counts = Counter(each.section for each in there.customers.values() if each.has(there.at))
         for number, section in model.sections.items():
-            if section in gone and (service := there.service_of(model.raw.customers[number].number)):
-                counts[section] -= service.has(there.at)
+            service = there.service_of(model.raw.customers[number].number)
+            if service is not None and service.section in gone and (section in gone or number in model.parts):
+                counts[service.section] -= service.has(there.at)
         return Counter({name: counts[name] for name in gone if counts[name] > 0})
 
     def rows_of(self, row: DeviceRow) -> Iterator[DeviceRow]:

@@ -14,6 +14,7 @@ docs/use/NETWORK.md says what is refused and what is left out.
 
 import argparse
 from collections import Counter
+from dataclasses import dataclass
 from pathlib import Path
 
 from outage_tools.cli import Once, Parser, add_table_arguments, print_error, run_job
@@ -28,16 +29,18 @@ from outage_tools.oms.known import Known, known_of
 from outage_tools.oms.network import MOST_NODES
 from outage_tools.oms.told import lines_of_notes
 from outage_tools.oms.writing import whole_file
-from outage_tools.sections.changed import Change, There, there_of
+from outage_tools.sections.changed import Change
 from outage_tools.sections.cim import read_cim
 from outage_tools.sections.cut import Choice
 from outage_tools.sections.edges import DEVICE_KINDS, Labels, labels_of
 from outage_tools.sections.importing import ROWS, Loading, add_import_arguments, check_import_words, import_rows
+from outage_tools.sections.ledger import Ledger, ledger_of
 from outage_tools.sections.loads import numbers_in, take_customers
 from outage_tools.sections.making import Maker
 from outage_tools.sections.model import Earlier, Model
 from outage_tools.sections.opendss import read_opendss
 from outage_tools.sections.reading import Reading, Tickets, read_customers, read_edges, read_sources, read_tickets
+from outage_tools.sections.there import There, there_of
 from outage_tools.sections.words import kinds_argument, word_argument, words_of
 from outage_tools.sections.writing import Tables, report_lines, tables_of, write_tables
 
@@ -185,12 +188,21 @@ def print_summary(model: Model, folder: Path, files: list[str]) -> None:
     print(f"written to {folder}: {', '.join(files)}")
 
 
-def make(args: argparse.Namespace, reading: Reading, known: Known | None, said: list[str]) -> tuple[Model, Tables]:
+@dataclass(frozen=True)
+class Book:
+    """What the book has, the moment of the change, and the exports that went in before."""
+
+    known: Known
+    there: There
+    ledger: Ledger
+
+
+def make(args: argparse.Namespace, reading: Reading, book: Book | None, said: list[str]) -> tuple[Model, Tables]:
     """Reads all, and makes what is written."""
     tickets = read_all(args, reading)
     earlier = earlier_of(args.earlier)
     numbers = {} if args.customers else take_customers(reading.raw, args.since, earlier.customers)
-    there = book_of(args, known) if known else None
+    there = book.there if book else None
     made = Maker(reading, choice_of(args, reading, tickets), earlier, args.meshed, there, said).model(tickets)
     change = Change(there, made, reading.complaints, said) if there else None
 
@@ -205,8 +217,8 @@ def make(args: argparse.Namespace, reading: Reading, known: Known | None, said: 
     tables = tables_of(made, reading, tickets, numbers, name_in)
     tables = {name: (columns, list(rows)) for name, (columns, rows) in tables.items()}
     reading.refuse()
-    if known and args.imports:
-        loading = Loading(args, known, reading, made, tickets)
+    if book and args.imports:
+        loading = Loading(args, book.known, reading, made, tickets)
         tables[ROWS] = loading.table(tables)
         reading.refuse()
         reading.files += loading.files
@@ -214,27 +226,25 @@ def make(args: argparse.Namespace, reading: Reading, known: Known | None, said: 
     return made, tables
 
 
-def known_in(args: argparse.Namespace) -> Known | None:
-    """What the book has."""
-    if not args.book:
-        return None
+def book_of(args: argparse.Namespace) -> Book:
     with open_book(args.book, args.table, args.program) as found:
-        return known_of(found)
-
-
-def book_of(args: argparse.Namespace, known: Known) -> There:
-    """The book at the moment of the change."""
+        known = known_of(found)
     keys = keys_for(args.keys, args.book, known.customer_refs, bool(args.customers))
     try:
-        return there_of(known, args.at, tuple(args.dates), keys)
+        there = there_of(known, args.at, tuple(args.dates), keys)
     except BadRow as error:
         raise BookError(str(error)) from None
+    ledger = ledger_of(args.book)
+    if args.imports:
+        ledger.check(there.at, args.earlier)
+    return Book(known, there, ledger)
 
 
 def job(args: argparse.Namespace, reading: Reading) -> None:
     said: list[str] = []
     try:
-        made, tables = make(args, reading, known_in(args), said)
+        book = book_of(args) if args.book else None
+        made, tables = make(args, reading, book, said)
         write_tables(args.output, tables)
     finally:
         if args.report:
@@ -247,8 +257,8 @@ def job(args: argparse.Namespace, reading: Reading) -> None:
         )
     for line in (*lines_of_notes(reading.files), *(f"{args.book or args.output}: {each}" for each in said)):
         print_error(f"note: {line}")
-    if args.imports:
-        print(import_rows(args), end="")
+    if book and args.imports:
+        print(import_rows(args, book.ledger, book.there.text(book.there.at)), end="")
 
 
 def check_words(parser: Parser, args: argparse.Namespace) -> None:

@@ -19,6 +19,7 @@ from outage_tools.oms.complaints import Notes
 from outage_tools.oms.files import Format, Spot
 from outage_tools.oms.known import Known
 from outage_tools.program import run_program
+from outage_tools.sections.ledger import Ledger, sum_of
 from outage_tools.sections.model import Model
 from outage_tools.sections.reading import Reading, Tickets
 from outage_tools.sections.writing import Table, Tables, write_tables
@@ -47,6 +48,8 @@ def check_import_words(parser: Parser, args: argparse.Namespace) -> None:
     """Words that don't go together end the run."""
     if args.imports and not args.book:
         parser.error("--import wants --book")
+    if args.imports and args.output.resolve() == args.earlier.resolve():
+        parser.error("--import wants a folder of its own for each export: -o and --as are one")
     given = [name for name in ONLY_HERE if getattr(args, name) != parser.get_default(name)]
     if given and not args.imports:
         parser.error(f"--{given[0]} goes with --import")
@@ -98,7 +101,8 @@ class Loading:
             devices = (edges.get(each.label) for each in self.model.devices)
             return [*[None] * len(self.model.nodes), *(edge.spot if edge else None for edge in devices)]
         if export == "customers":
-            return [each.spot for each in self.model.raw.customers]
+            rows = enumerate(self.model.raw.customers)
+            return [each.spot for number, each in rows for _ in range(len(self.model.parts.get(number, ())) or 1)]
         return [Spot(each.file, each.number) for each in self.tickets.rows] if self.tickets else []
 
     def place(self, export: str | None, file: str, row: int, spots: dict[str, list[Spot | None]]) -> Spot:
@@ -112,10 +116,13 @@ class Loading:
         return found if row else Spot(found.file, row)
 
 
-def import_rows(args: argparse.Namespace) -> str:
-    """What the program prints of the import of a folder's rows."""
+def import_rows(args: argparse.Namespace, ledger: Ledger, at: str) -> str:
+    """What the program prints of the import of a folder's rows. The ledger has the export first: it may be given again."""
     rows = args.output / ROWS
+    ledger.write((at, str(args.output), sum_of(args.output)))
     done = run_program(args.program, "import", "--whole", "--book", args.book, rows)
+    if done.returncode == REFUSED:
+        ledger.write()
     if done.returncode:
         reason = done.stderr.strip() or f"status {done.returncode}"
         left = "as it was" if done.returncode == REFUSED else f"as it was, or has all of them: import {rows} again"

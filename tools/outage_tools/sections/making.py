@@ -5,7 +5,7 @@ from dataclasses import dataclass, field, replace
 
 from outage_tools.normal_state import SOURCE
 from outage_tools.oms.complaints import Notes
-from outage_tools.sections.changed import Change, There, kept_names, renamed_feeders
+from outage_tools.sections.changed import Change, kept_names, renamed_feeders
 from outage_tools.sections.circuits import (
     Circuits,
     area_circuits,
@@ -22,6 +22,7 @@ from outage_tools.sections.model import DeviceRow, Earlier, Model, NodeRow
 from outage_tools.sections.naming import BUS, SECTION, book_names, node_name
 from outage_tools.sections.placing import Placed, placed_of, refuse_without_feeder
 from outage_tools.sections.reading import Reading, Tickets
+from outage_tools.sections.there import There
 
 
 @dataclass
@@ -63,7 +64,7 @@ class Maker:
         made.of_row, made.meters = named.of_row, meters
         self.note_names(made, named, tickets, notes)
         if self.there:
-            Change(self.there, made, reading.complaints, self.said).apply()
+            Change(self.there, made, reading.complaints, self.said, notes).apply()
             reading.refuse()
         return made
 

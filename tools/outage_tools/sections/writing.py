@@ -31,9 +31,11 @@ def gis_rows(model: Model) -> Iterator[tuple[object, ...]]:
 
 def customer_rows(model: Model, columns: list[str]) -> Iterator[tuple[object, ...]]:
     for number, customer in enumerate(model.raw.customers):
-        service = dict(zip(SERVICE, customer.service))
+        own = model.sections[number], dict(zip(SERVICE, customer.service))
+        parts = [(each.section, {"since": each.since, "until": each.until}) for each in model.parts.get(number, ())]
         meter = [model.meters.get(customer.meter, "")] if model.meters else []
-        yield customer.number, model.sections[number], *(service[column] for column in columns), *meter
+        for section, service in parts or [own]:
+            yield customer.number, section, *(service.get(column, "") for column in columns), *meter
 
 
 def name_rows(model: Model, customers: Numbers) -> Iterator[tuple[object, ...]]:
