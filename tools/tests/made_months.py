@@ -117,13 +117,16 @@ class Year:
 
     def trunk(self, circuit: str) -> list[RawEdge]:
         """The edges from a circuit's breaker to its end."""
-        before: dict[str, RawEdge] = {}
+        beside: dict[str, list[RawEdge]] = {}
         start = self.edges[self.grid.trunks[circuit][0]]
+        for each in self.of(circuit, "line", "switch", "fuse", "recloser"):
+            beside.setdefault(each.a, []).append(each)
+            beside.setdefault(each.b, []).append(each)
+        before: dict[str, RawEdge] = {}
         waiting = [start.a, start.b]
-        mine = self.of(circuit, "line", "switch", "breaker", "fuse", "recloser")
         while waiting:
             node = waiting.pop()
-            for edge in (each for each in mine if node in (each.a, each.b) and each is not start):
+            for edge in beside.get(node, ()):
                 other = edge.b if edge.a == node else edge.a
                 if other not in before and other not in (start.a, start.b):
                     before[other] = edge
@@ -350,11 +353,8 @@ def circuits(year: Year) -> list[str]:
 def fuse_in_lateral(year: Year, at: int) -> list[str]:
     """A fuse comes into a line before a transformer, while the feeder is switched off for it."""
     circuit = circuits(year)[0]
-    line = next(
-        each
-        for each in year.of(circuit, "line")
-        if any(other.kind == "transformer" for end in (each.a, each.b) for other in year.at_node(end))
-    )
+    ends = {end for each in year.of(circuit, "transformer") for end in (each.a, each.b)}
+    line = next(each for each in year.of(circuit, "line") if {each.a, each.b} & ends)
     near = [each.name for end in (line.a, line.b) for each in year.at_node(end) if each.kind == "transformer"]
     fuse = year.split(line, "fuse")
     year.ticket(year.grid.trunks[circuit][0], at - 1_801, at + 1_799, 4)

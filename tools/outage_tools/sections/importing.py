@@ -117,14 +117,16 @@ class Loading:
 
 
 def import_rows(args: argparse.Namespace, ledger: Ledger, at: str) -> str:
-    """What the program prints of the import of a folder's rows. The ledger has the export first: it may be given again."""
+    """What the program prints of the import of a folder's rows. The ledger has the export before, and loses it where the book is as it
+    was for certain."""
     rows = args.output / ROWS
     ledger.write((at, str(args.output), sum_of(args.output)))
     done = run_program(args.program, "import", "--whole", "--book", args.book, rows)
     if done.returncode == REFUSED:
         ledger.write()
     if done.returncode:
-        reason = done.stderr.strip() or f"status {done.returncode}"
-        left = "as it was" if done.returncode == REFUSED else f"as it was, or has all of them: import {rows} again"
-        raise BookError(f"import of {rows}: {reason}; {args.book} is {left}")
+        left = (
+            "is as it was" if done.returncode == REFUSED else f"is as it was, or has all of {rows}: give the same again"
+        )
+        raise BookError(f"import of {rows}: {done.stderr.strip() or f'status {done.returncode}'}; {args.book} {left}")
     return done.stdout
