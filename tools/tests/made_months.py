@@ -462,7 +462,8 @@ def lateral_moved(year: Year, _: int) -> list[str]:
     fuse = next(each for each in year.of(one, "fuse") if {each.a, each.b} & nodes)
     near = fuse.a if fuse.a in nodes else fuse.b
     far = fuse.b if near == fuse.a else fuse.a
-    for each in [each for each in year.edges.values() if {each.a, each.b} <= year.behind(far, [fuse.name])]:
+    moved = year.behind(far, [fuse.name])
+    for each in [each for each in year.edges.values() if {each.a, each.b} <= moved]:
         year.put(each, circuit=other)
     target = year.trunk(other)[4].a
     year.edges[fuse.name] = RawEdge(fuse.name, "fuse", target, far, "1", other)

@@ -53,7 +53,7 @@ class Import(unittest.TestCase):
         kinds = [row[0] for row in found.files["rows.csv"]]
         self.assertEqual(kinds, ["section", "device", "life", "device", "switch", "switch"])
         self.assertEqual([row.split(",")[0] for row in self.exported], ["2025-06-01T00:00:00+00:00"])
-        again = run(*self.words(at=LATER, earlier=kept("import-kept", found)), to="import-third")
+        again = run(*self.words(at=LATER, earlier=support.folder() / "import-second"), to="import-third")
         self.assertEqual((again.out.splitlines()[-1], len(self.exported)), ("added 0 again 0", 2), again.err)
         stale = run(*self.words(at="2025-08-01 00:00:00"), to="import-fourth")
         last = f"row 2: the last export that went in is that of {support.folder()}/import-third, and --as {self.folder} is another"

@@ -2,6 +2,7 @@
 edges of each second, customer by customer."""
 
 import hashlib
+import os
 import re
 import shutil
 import unittest
@@ -23,11 +24,12 @@ from tests.test_sections_made import WORDS, by_customer
 PROGRAM = str(support.PROGRAM) if support.has_program() else "outagebook"
 SIZE_BY_KEYS = (2, 2, 3, 6, 4)
 SIZE = (1, 2, 3, 20, 12) if support.has_program() else (1, 2, 3, 6, 4)
+SPANS = 32 if os.environ.get("OUTAGEBOOK_LONG") else 1  # of each line: with 32 there are 20,000 edges
 
 
 @lru_cache(maxsize=None)
 def made() -> Year:
-    return made_year(*SIZE)
+    return made_year(*SIZE, SPANS)
 
 
 def texts_of(year: Year, month: int, has_keys: bool = False) -> dict[str, list[str]]:

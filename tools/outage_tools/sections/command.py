@@ -68,6 +68,20 @@ def make_parser() -> Parser:
     )
     parser.add_argument("-o", dest="output", metavar="FOLDER", type=Path, required=True, help="where the files go")
     parser.add_argument("--report", metavar="FILE", type=Path, help="what was read, left out, noticed and refused")
+    add_book_arguments(parser)
+    parser.add_argument(
+        "--since", metavar="DATE", help="from when the loads of a model are served, if no customers are given"
+    )
+    parser.add_argument(
+        "--label", choices=["name", "mrid"], default="name", help="what an object of CIM is called by (name)"
+    )
+    add_cut_arguments(parser)
+    add_format_arguments(parser)
+    return parser
+
+
+def add_book_arguments(parser: Parser) -> None:
+    """The words of a book that was made of an earlier run."""
     parser.add_argument(
         "--as", dest="earlier", metavar="FOLDER", type=Path, help="the folder of an earlier run, whose names stay"
     )
@@ -78,15 +92,6 @@ def make_parser() -> Parser:
     add_keys_argument(parser, "with --book: the table of its customers' keys")
     add_table_arguments(parser)
     add_import_arguments(parser)
-    parser.add_argument(
-        "--since", metavar="DATE", help="from when the loads of a model are served, if no customers are given"
-    )
-    parser.add_argument(
-        "--label", choices=["name", "mrid"], default="name", help="what an object of CIM is called by (name)"
-    )
-    add_cut_arguments(parser)
-    add_format_arguments(parser)
-    return parser
 
 
 def add_cut_arguments(parser: Parser) -> None:
