@@ -85,6 +85,15 @@ class Import(unittest.TestCase):
         self.assertEqual((found.status, found.out.splitlines()[-1]), (0, "added 6 again 0"), found.err)
         self.assertEqual(found.files["rows.csv"][-1][4], "2025-05-01T01:00:00+00:00")
 
+    def test_times_of_another_zone(self) -> None:
+        """They say which name a device had then, too."""
+        rows = "1,XF1,2025-05-31 17:00,2025-05-31 18:00,WIND\n2,XF1,2025-05-31 20:00,2025-05-31 21:00,WIND\n"
+        found = run(*self.words("--zone", "EST5", oms=f"{OMS_HEAD}\n{rows}"), to="import-second")
+        self.assertEqual(found.status, 0, found.err)
+        self.assertEqual([row[1] for row in found.files["oms.csv"]], ["XF1", "XF1-2"])
+        at = [row[4] for row in found.files["rows.csv"] if row[2].startswith("XF1") and row[3] == "open"]
+        self.assertEqual(at, ["2025-05-31T17:00:00-05:00", "2025-05-31T20:00:00-05:00"])
+
     def failing(self, status: int) -> Path:
         """A program that is the stand-in but for imports, which end with a status."""
         path = support.folder() / f"failing-{status}"

@@ -239,7 +239,7 @@ class Change:
         names = self.model.names_of(label)
         if len(names) == 1:
             return names[0]
-        zone = read_zone(row["zone"]) if row["zone"] else self.there.zone
+        zone = read_zone(row["zone"]) if row["zone"] else self.there.rows_zone
         moments = [
             read_moment(row[column], row[f"{column}_hour"], zone, column, self.there.dates, wants_clock=True)
             for column in ("out", "restored")

@@ -236,7 +236,7 @@ def book_of(args: argparse.Namespace) -> Book:
         known = known_of(found)
     keys = keys_for(args.keys, args.book, known.customer_refs, bool(args.customers))
     try:
-        there = there_of(known, args.at, tuple(args.dates), keys)
+        there = there_of(known, args.at, tuple(args.dates), keys, args.zone)
     except BadRow as error:
         raise BookError(str(error)) from None
     ledger = ledger_of(args.book)

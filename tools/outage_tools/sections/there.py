@@ -29,10 +29,11 @@ class Life:
 
 @dataclass
 class There:
-    """What the book has, and the second from which the network is as the export has it."""
+    """What the book has, and the second from which the network is as the export has it. The rows of the export may have another zone."""
 
     zone: Zone
     at: int
+    rows_zone: Zone
     nodes: dict[str, int | None] = field(default_factory=dict)  # with the feeders of sections
     devices: dict[str, Life] = field(default_factory=dict)
     ends: dict[str, tuple[str, str]] = field(default_factory=dict)
@@ -71,7 +72,7 @@ class There:
         told = dict(zip(SERVICE, customer.service))
         try:
             text, hour = told[column], told[f"{column}_hour"]
-            return read_moment(text, hour, self.zone, column, self.dates) if text else None
+            return read_moment(text, hour, self.rows_zone, column, self.dates) if text else None
         except BadRow:
             return None
 
@@ -97,11 +98,13 @@ class There:
         return moment_text(second, self.zone)
 
 
-def there_of(known: Known, at: str, dates: tuple[str, ...], keys: Keys | None = None) -> There:
+def there_of(known: Known, at: str, dates: tuple[str, ...], keys: Keys | None, rows_zone: Zone | None) -> There:
+    """What a book has; `rows_zone` where it isn't the book's."""
     book = known.book
     assert book is not None  # it was opened
     zone = book.period.zone
-    found = There(zone, read_moment(at, "", zone, "--at", dates), customers=known.customers, dates=dates, keys=keys)
+    second = read_moment(at, "", zone, "--at", dates)
+    found = There(zone, second, rows_zone or zone, customers=known.customers, dates=dates, keys=keys)
     for node, name in book.nodes.items():
         if name != SOURCE:
             found.nodes[name] = book.sections[node].feeder if node in book.sections else None
