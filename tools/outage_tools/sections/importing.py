@@ -82,6 +82,9 @@ class Loading:
             self.reading.complaints.found.append(replace(each, file=place.file, row=place.number))
         for notes in self.files:
             export = told.get(notes.file)
+            if export == "gis":
+                notes.file = str(self.args.output / "gis.csv")
+                continue
             for listed in notes.noted.values():
                 listed[:] = [self.place(export, notes.file, row, spots).number for row in listed]
             notes.file = self.place(export, notes.file, HEADER_ROW, spots).file

@@ -22,9 +22,11 @@ def chain_of(there: There, key: str) -> list[Service]:
 
 def parts_of(there: There, customer: Customer, section: str) -> list[Part]:
     """The services that a row stands for whose customer is moved now, or was before; none where the row is one service."""
-    since, until = there.second_of(customer, "since"), there.second_of(customer, "until")
     chain = chain_of(there, customer.number)
-    if not chain or since is None or max(since, 0) != chain[0].since:
+    if not chain or [each.section for each in chain] == [section]:
+        return []
+    since, until = there.second_of(customer, "since"), there.second_of(customer, "until")
+    if since is None or max(since, 0) != chain[0].since:
         return []
     *before, last = chain
     if until is not None and until <= last.since:
