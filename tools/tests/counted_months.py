@@ -8,7 +8,7 @@ from dataclasses import dataclass, field
 from fractions import Fraction
 
 from tests.made_grid import DAY, END, FIRST, SUSTAINED, RawEdge
-from tests.made_months import CAUSES, Export, Service, Year, month_begin
+from tests.made_months import CAUSES, Export, Service, Year, meter_of, month_begin
 
 Interruption = tuple[int, int, int]  # its first second, the second behind it, its cause
 NOBODY = 0  # the cause of what no switching cut off
@@ -23,6 +23,8 @@ class Watch:
     beside: dict[str, list[tuple[str, str]]] = field(default_factory=dict)
     is_closed: dict[str, bool] = field(default_factory=dict)
     numbers: dict[str, list[int]] = field(default_factory=dict)  # of customers, by their transformers
+    behind: dict[int, tuple[str, str]] = field(default_factory=dict)  # the transformer and the meter of each
+    open_meters: set[str] = field(default_factory=set)
     on: set[str] = field(default_factory=set)  # transformers with supply
     is_new: bool = True  # the network changed since anybody looked
     out: dict[int, tuple[int, int]] = field(default_factory=dict)
@@ -44,6 +46,7 @@ class Watch:
         self.numbers, self.is_new = defaultdict(list), True
         for each in export.register:
             self.numbers[each.transformer].append(each.number)
+            self.behind[each.number] = each.transformer, meter_of(each)
             if each.number not in self.found:
                 self.found[each.number] = []
                 self.out[each.number] = FIRST, NOBODY
@@ -58,7 +61,17 @@ class Watch:
                     waiting.append(other)
         return reached
 
-    def look(self, second: int, cause: int) -> None:
+    def act(self, second: int, device: str, closes: bool, cause: int) -> None:
+        """Something is switched, a meter or a device of the network."""
+        touched: list[int] = []
+        if device in self.is_closed:
+            self.is_closed[device] = closes
+        else:
+            self.open_meters ^= {device}
+            touched = [number for number, (_, meter) in self.behind.items() if meter == device]
+        self.look(second, cause, touched)
+
+    def look(self, second: int, cause: int, touched: Iterable[int] = ()) -> None:
         """Notes who went out or came back at this second."""
         reached = self.supplied()
         on = {
@@ -66,14 +79,15 @@ class Watch:
             for name in self.numbers
             if name in self.edges and self.is_closed[name] and self.edges[name].a in reached
         }
-        for transformer in self.numbers.keys() if self.is_new else on ^ self.on:
-            for number in self.numbers[transformer]:
-                if transformer in on and number in self.out:
-                    since, why = self.out.pop(number)
-                    if since < second:
-                        self.found[number].append((since, second, why))
-                elif transformer not in on:
-                    self.out.setdefault(number, (second, cause))
+        changed = self.numbers.keys() if self.is_new else on ^ self.on
+        for number in (*touched, *(number for transformer in changed for number in self.numbers[transformer])):
+            transformer, meter = self.behind[number]
+            if transformer not in on or meter in self.open_meters:
+                self.out.setdefault(number, (second, cause))
+            elif number in self.out:
+                since, why = self.out.pop(number)
+                if since < second:
+                    self.found[number].append((since, second, why))
         self.on, self.is_new = on, False
 
 
@@ -89,8 +103,7 @@ def counted(year: Year) -> dict[int, list[Interruption]]:
         watch.look(export.at, NOBODY)
         for second, device, closes, cause in acts:
             if export.at <= second < later.at:
-                watch.is_closed[device] = closes
-                watch.look(second, cause)
+                watch.act(second, device, closes, cause)
     for number, (since, cause) in watch.out.items():
         watch.found[number].append((since, END, cause))
     services = services_of(year)

@@ -37,6 +37,11 @@ def key_of(number: int) -> str:
     return f"DE{number:011d}"
 
 
+def meter_of(service: Service) -> str:
+    """The meter of a customer, whatever its transformer is."""
+    return f"MT/{service.key[-5:]}"
+
+
 @dataclass(frozen=True)
 class Step:
     """A row of the tickets. The device has the label that it had then."""
@@ -270,10 +275,10 @@ class Year:
         services: dict[str, list[Service]] = {}
         for each in self.exports[month].register:
             services.setdefault(each.key, []).append(each)
-        yield "customer;transformer;since;until"
+        yield "customer;transformer;meter;since;until"
         for key, listed in services.items():
             first, last = listed[0], listed[-1]
-            yield f"{key};{last.transformer};{moment(first.since)};{moment(last.until) if last.until else ''}"
+            yield f"{key};{last.transformer};{meter_of(last)};{moment(first.since)};{moment(last.until) if last.until else ''}"
 
     def oms_lines(self, month: int) -> Iterator[str]:
         """The tickets of the year up to the end of a month, as they are told then."""
@@ -291,8 +296,11 @@ class Year:
 # A year.
 
 
-def made_year(seed: int, substations: int, feeders: int, length: int, per_month: int, spans: int = 1) -> Year:
-    """A utility with about `substations * feeders * length * 8` edges, and more where each line is several spans."""
+def made_year(
+    seed: int, substations: int, feeders: int, length: int, per_month: int, spans: int = 1, has_meters: bool = False
+) -> Year:
+    """A utility with about `substations * feeders * length * 8` edges, and more where each line is several spans; with tickets of single
+    services too."""
     year = Year(made_grid(seed, substations, feeders, length, 0))
     year.take(0)
     year.register = [Service(number, *each, key_of(number)) for number, each in year.grid.customers.items()]
@@ -316,6 +324,8 @@ def made_year(seed: int, substations: int, feeders: int, length: int, per_month:
         year.tickets(at + 2 * DAY, month_begin(month + 1) - DAY, per_month // 2)
         if month < 12:
             plant_corrections(year, begun)
+        if has_meters:
+            tickets_of_meters(year, quiet, at + 2 * DAY)
         running = year.draw.choice(year.of(quiet, "fuse", "transformer")).name
         year.ticket(running, month_begin(month + 1) - 5_003, month_begin(month + 1) + 7_001)
     return year
@@ -329,6 +339,15 @@ def cut_into_spans(year: Year, line: RawEdge, spans: int) -> None:
         year.make("line", at, node, circuit=line.circuit)
         at = node
     year.put(line, a=at)
+
+
+def tickets_of_meters(year: Year, circuit: str, at: int) -> None:
+    """Two tickets of single services on a circuit, of customers who are there all the year."""
+    there = {each.name for each in year.of(circuit, "transformer")}
+    ready = [each for each in year.register if each.transformer in there and each.since < FIRST and each.until is None]
+    for each in year.draw.sample(ready, 2):
+        begin = at + year.draw.randrange(3 * DAY)
+        year.ticket(meter_of(each), begin, begin + year.draw.choice((250, 4_000)))
 
 
 def plant_corrections(year: Year, begun: int) -> None:

@@ -16,7 +16,7 @@ from outage_tools.counts import Counts
 from tests import exports, support
 from tests.counted_months import Count, Figures, causes_text, count_of, services_of
 from tests.made_grid import DAY, FIRST, PERIOD, moment
-from tests.made_months import CAUSES, MONTHS, Year, made_year
+from tests.made_months import CAUSES, MONTHS, Year, made_year, meter_of
 from tests.network_runs import Cut, rows_of, run
 from tests.test_sections_changed import kept, rows_by
 from tests.test_sections_made import WORDS, by_customer
@@ -212,8 +212,8 @@ class Months(unittest.TestCase):
         self.check(whole_year()[13], count_of(year), {each.number: each.number for each in services_of(year).values()})
 
     def test_a_year_by_keys(self) -> None:
-        """The register has a row for each customer, with what supplies it now."""
-        year = made_year(*SIZE_BY_KEYS)
+        """The register has a row for each customer, with what supplies it now, and its meter, which tickets may name."""
+        year = made_year(*SIZE_BY_KEYS, has_meters=True)
         monthly = Monthly(YEARS[1], year, True)
         monthly.begin()
         for month in MONTHS:
@@ -222,9 +222,14 @@ class Months(unittest.TestCase):
         numbers: dict[str, list[int]] = {}
         for number, key in rows_of(monthly.book.with_suffix(".keys.csv")):
             numbers.setdefault(key, []).append(int(number))
+        meters = {each.device for each in year.steps if each.device.startswith("MT/")}
+        behind = {each.key for each in services_of(year).values() if meter_of(each) in meters}
+        for key in behind:
+            numbers[key].pop(0)  # it has no second in the year
         services = sorted(services_of(year).values(), key=lambda each: each.since)
         self.check(monthly, count_of(year), {each.number: numbers[each.key].pop(0) for each in services})
         self.assertEqual({*map(len, numbers.values())}, {0})
+        self.assertGreater(len(behind), 10)
 
     def check(self, monthly: Monthly, count: Count, number_of: Mapping[int, int]) -> None:
         """Each customer's interruptions, each line of the annual table, and the counts of each feeder, cause, month and day."""
@@ -234,7 +239,7 @@ class Months(unittest.TestCase):
             had = by_customer(found)
             for number, listed in count.customers.items():
                 self.assertEqual(had.pop(number_of[number]), [(since, until) for since, until, _ in listed], number)
-            self.assertEqual(had, {})
+            self.assertEqual([each for each in had.values() if each], [])
             self.check_table(figures_of_table(found.table), count, by_feeder)
             causes = {CAUSES.get(code, "UNASSIGNED"): each for code, each in count.causes.items()}
             self.check_groups(found, "cause", causes)
