@@ -31,31 +31,31 @@ module _ (g : given.Over) (k : KeeperValue g.row.S.Denot) (conn : Held g.row.S.D
 
 pub returns-in-Ok-clause-numbered : goal.returns-in-Ok-clause-numbered
 returns-in-Ok-clause-numbered g c b ties numbers =
-    let k = c.args.self.now in
-    let conn = c.self.inside.conn in
-    let conn_is : conn ≡ k.conn = ap (λ (x : KeeperValue g.row.S.Denot). x.conn) c.self.view_is in
-    let book_is : option_map (λ (x : BookValue). x.state) c.self.inside.book ≡ k.book = ap (λ (x : KeeperValue g.row.S.Denot). x.book) c.self.view_is in
-    c.act_on.ensures.numbered b (keeps_in g k conn conn_is b ties) (same_in g k conn conn_is b c.self.inside.book c.in-Some.book book_is c.in-Some.is ties) (numbers_in g k conn conn_is b numbers)
+    let k = c.args.self.now.parts in
+    let conn = c.parts.inside.conn in
+    let conn_is : conn ≡ k.conn = ap (λ (x : KeeperValue g.row.S.Denot). x.conn) c.parts.view_is in
+    let book_is : option_map (λ (x : BookValue). x.state) c.parts.inside.book ≡ k.book = ap (λ (x : KeeperValue g.row.S.Denot). x.book) c.parts.view_is in
+    c.act_on.ensures.numbered b (keeps_in g k conn conn_is b ties) (same_in g k conn conn_is b c.parts.inside.book c.in-Some.book book_is c.in-Some.is ties) (numbers_in g k conn conn_is b numbers)
 
 pub returns-in-Err-clause-numbered : goal.returns-in-Err-clause-numbered
 returns-in-Err-clause-numbered g c b ties numbers =
-    let k = c.args.self.now in
-    let conn = c.self.inside.conn in
-    let conn_is : conn ≡ k.conn = ap (λ (x : KeeperValue g.row.S.Denot). x.conn) c.self.view_is in
-    let book_is : option_map (λ (x : BookValue). x.state) c.self.inside.book ≡ k.book = ap (λ (x : KeeperValue g.row.S.Denot). x.book) c.self.view_is in
-    c.act_on.ensures.numbered b (keeps_in g k conn conn_is b ties) (same_in g k conn conn_is b c.self.inside.book c.in-Some.book book_is c.in-Some.is ties) (numbers_in g k conn conn_is b numbers)
+    let k = c.args.self.now.parts in
+    let conn = c.parts.inside.conn in
+    let conn_is : conn ≡ k.conn = ap (λ (x : KeeperValue g.row.S.Denot). x.conn) c.parts.view_is in
+    let book_is : option_map (λ (x : BookValue). x.state) c.parts.inside.book ≡ k.book = ap (λ (x : KeeperValue g.row.S.Denot). x.book) c.parts.view_is in
+    c.act_on.ensures.numbered b (keeps_in g k conn conn_is b ties) (same_in g k conn conn_is b c.parts.inside.book c.in-Some.book book_is c.in-Some.is ties) (numbers_in g k conn conn_is b numbers)
 
 pub returns-in-Err-clause-cause : goal.returns-in-Err-clause-cause
-returns-in-Err-clause-cause g c clean b ties numbers some store =
-    let k = c.args.self.now in
-    let conn = c.self.inside.conn in
-    let conn_is : conn ≡ k.conn = ap (λ (x : KeeperValue g.row.S.Denot). x.conn) c.self.view_is in
-    let book_is : option_map (λ (x : BookValue). x.state) c.self.inside.book ≡ k.book = ap (λ (x : KeeperValue g.row.S.Denot). x.book) c.self.view_is in
-    let cause = c.in-Err.ensures.cause clean b (keeps_in g k conn conn_is b ties) (numbers_in g k conn conn_is b numbers) (same_in g k conn conn_is b c.self.inside.book c.in-Some.book book_is c.in-Some.is ties) in
+returns-in-Err-clause-cause g c clean b ties some numbers store =
+    let k = c.args.self.now.parts in
+    let conn = c.parts.inside.conn in
+    let conn_is : conn ≡ k.conn = ap (λ (x : KeeperValue g.row.S.Denot). x.conn) c.parts.view_is in
+    let book_is : option_map (λ (x : BookValue). x.state) c.parts.inside.book ≡ k.book = ap (λ (x : KeeperValue g.row.S.Denot). x.book) c.parts.view_is in
+    let cause = c.in-Err.ensures.cause clean b (keeps_in g k conn conn_is b ties) (numbers_in g k conn conn_is b numbers) (same_in g k conn conn_is b c.parts.inside.book c.in-Some.book book_is c.in-Some.is ties) in
     subst (λ (h : Held g.row.S.Denot). HasActCause g.S.Store {X = ⊤} h c.act_on.new.conn b (under c.args.reference c.args.command) (Err c.in-Err.stop)) conn_is cause store
 
 pub returns-in-Ok-clause-survives : goal.returns-in-Ok-clause-survives
-returns-in-Ok-clause-survives g c = survives_from g c.args.self.now c.self.inside.conn c.act_on.new.conn (ap (λ (x : KeeperValue g.row.S.Denot). x.conn) c.self.view_is) c.act_on.ensures.survives
+returns-in-Ok-clause-survives g c = survives_from g c.args.self.now.parts c.parts.inside.conn c.act_on.new.conn (ap (λ (x : KeeperValue g.row.S.Denot). x.conn) c.parts.view_is) c.act_on.ensures.survives
 
 pub returns-in-Err-clause-survives : goal.returns-in-Err-clause-survives
-returns-in-Err-clause-survives g c = survives_from g c.args.self.now c.self.inside.conn c.act_on.new.conn (ap (λ (x : KeeperValue g.row.S.Denot). x.conn) c.self.view_is) c.act_on.ensures.survives
+returns-in-Err-clause-survives g c = survives_from g c.args.self.now.parts c.parts.inside.conn c.act_on.new.conn (ap (λ (x : KeeperValue g.row.S.Denot). x.conn) c.parts.view_is) c.act_on.ensures.survives

@@ -7,6 +7,6 @@ use Rattle.ob_store.proofs.keeper.Keeper.create.Goals as goal
 
 pub returns-in-Err-clause-cause : goal.returns-in-Err-clause-cause
 returns-in-Err-clause-cause g c clean store =
-    let conn_is : c.self.inside.conn ≡ c.args.self.now.conn = ap (λ (k : KeeperValue g.row.S.Denot). k.conn) c.self.view_is in
+    let conn_is : c.parts.inside.conn ≡ c.args.self.now.parts.conn = ap (λ (k : KeeperValue g.row.S.Denot). k.conn) c.parts.view_is in
     subst (λ (h : Held g.row.S.Denot). HasCreateCause g.S.Store {X = ⊤} h c.create_on.new.conn c.args.first.now c.args.days c.args.zone.now (Err c.in-Err.stop)) conn_is
     (c.in-Err.ensures.cause clean) store
