@@ -2,6 +2,7 @@
 ghost use Rattle.std.specs.Prelude.{◌≡◌, ◌↔◌, [], None, Err, IsSome, IfErr, IfOk};
 ghost use Rattle.ob_stream.specs.Watching.{watched_bytes};
 ghost use Rattle.ob_store.specs.Calls.{TellsFaults, WasClean};
+ghost use Rattle.ob_store.specs.Keepers.{book_of};
 ghost use Rattle.ob_http_requests.specs.Unread.{unread};
 ghost use Rattle.ob_desk.specs.Serving.{Fails, Serves};
 ghost use Rattle.ob_desk.specs.Standing.{IsKept, fault_of};
@@ -46,19 +47,19 @@ pub fn serve_stream<R: Read, W: Write, S: Alter, T: Timeline>(
     writer: &mut Watched<W>,
     keeper: &mut Keeper<S, T>,
 ) -> Result<Served, Fault>
-    ensures serves { IfOk result (λ served. Serves S.Store (watched_bytes R.remaining reader.old)
+    ensures serves { IfOk result (λ served. Serves (watched_bytes R.remaining reader.old)
         (watched_bytes W.contents writer.old) (watched_bytes W.contents writer.new) keeper.old
         keeper.new served.requests) }
-    ensures fails { IfErr result (Fails S.Store (watched_bytes R.remaining reader.old)
+    ensures fails { IfErr result (Fails (watched_bytes R.remaining reader.old)
         (watched_bytes R.remaining reader.new) (watched_bytes W.contents writer.old)
         (watched_bytes W.contents writer.new) reader.new writer.new keeper.old keeper.new) }
-    ensures clean { WasClean S.Store keeper.old keeper.new }
-    ensures unopened { keeper.old.book ≡ None → keeper.new ≡ keeper.old }
-    ensures dropped { IsSome keeper.old.book → (keeper.new.book ≡ None)
+    ensures clean { WasClean keeper.old keeper.new }
+    ensures unopened { book_of keeper.old ≡ None → keeper.new ≡ keeper.old }
+    ensures dropped { IsSome (book_of keeper.old) → (book_of keeper.new ≡ None)
         ↔ (result ≡ Err Fault.Store) }
     // no fault of the store is forgotten, row numbers and the step limit stay, and a store fault has
     // a cause
-    ensures tells { TellsFaults S.Store keeper.old keeper.new (result ≡ Err Fault.Store) }
+    ensures tells { TellsFaults keeper.old keeper.new (result ≡ Err Fault.Store) }
 {
     let Ok(routes) = Routes::new(alloc) else {
         return Err(Fault::OutOfMemory);
@@ -77,14 +78,14 @@ fn serve_requests<R: Read, W: Write, S: Alter, T: Timeline>(
     ahead: &mut Ahead,
 ) -> Result<Served, Fault>
     requires { ahead.old ≡ [] }
-    ensures serves { IfOk result (λ served. Serves S.Store (watched_bytes R.remaining reader.old)
+    ensures serves { IfOk result (λ served. Serves (watched_bytes R.remaining reader.old)
         (watched_bytes W.contents writer.old) (watched_bytes W.contents writer.new) keeper.old
         keeper.new served.requests) }
-    ensures fails { IfErr result (Fails S.Store (watched_bytes R.remaining reader.old)
+    ensures fails { IfErr result (Fails (watched_bytes R.remaining reader.old)
         (watched_bytes R.remaining reader.new) (watched_bytes W.contents writer.old)
         (watched_bytes W.contents writer.new) reader.new writer.new keeper.old keeper.new) }
-    ensures kept { IsKept S.Store keeper.old keeper.new (fault_of result) }
-    ensures tells { TellsFaults S.Store keeper.old keeper.new (result ≡ Err Fault.Store) }
+    ensures kept { IsKept keeper.old keeper.new (fault_of result) }
+    ensures tells { TellsFaults keeper.old keeper.new (result ≡ Err Fault.Store) }
 {
     let mut retries = Retries::new();
     let mut allowed = MOST_REQUESTS;
