@@ -12,6 +12,7 @@ use Rattle.ob_book.specs.Acts.{ActState}
 use Rattle.ob_store.specs.Calls.{StoreFailed}
 use Rattle.ob_store.specs.Keepers.{Ghosts, Stores, Ties, book_of}
 use Rattle.ob_store.specs.MovingOut.{all_moves}
+use Rattle.ob_store.specs.declared.keeper.Keeper.{Keeper}
 
 -- a first part of the text was written
 pub record AppendsPart (old new : Option (List ℕ)) (text : List ℕ) : Type 0 where
