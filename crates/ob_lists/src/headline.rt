@@ -3,6 +3,7 @@ ghost use Rattle.std.specs.Prelude.{◌≡◌, ◌↔◌, [], List, IsNone, IfOk
 ghost use Rattle.ob_base.specs.Stop.{out_of_memory};
 ghost use Rattle.ob_book.specs.Acts.{ActState};
 ghost use Rattle.ob_store.specs.Keepers.{IsClean, book_of};
+ghost use Rattle.ob_store.specs.declared.keeper.Keeper.{Keeper as AKeeper};
 ghost use Rattle.ob_headline.specs.Headline.{HasNoAmount};
 ghost use Rattle.ob_lists.specs.Standing.{MayBe, Stands, Told};
 ghost use Rattle.ob_lists.specs.Going.{Goes};
