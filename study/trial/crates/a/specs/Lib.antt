@@ -1,0 +1,3 @@
+pub mod Of
+pub mod Value
+pub mod Words
