@@ -1,11 +1,16 @@
 -- What commands sent one after another may search, added up.
-use Rattle.std.proofs.Common.{◌≡◌, ◌∙◌, refl, sym, ap, ℕ, ◌+◌, true, false, List, [], ◌∷◌, ◌++◌, fold, map, if◌then◌else◌, arith}
+use Rattle.std.proofs.Common.{◌≡◌, ◌∙◌, refl, sym, ap, ℕ, ◌+◌, true, false, Option, Some, None, List, [], ◌∷◌, ◌++◌, fold, map, if◌then◌else◌, arith}
+use Rattle.std.specs.Option.{option_map_or}
+use Rattle.ob_net.specs.Network.{Network}
+use Rattle.ob_sheet.specs.declared.Entry.{Entry}
+use Rattle.ob_sweep.specs.declared.change.Change.{Change}
 use Rattle.ob_time.specs.Calendar.{Calendar}
 use Rattle.ob_command.specs.declared.command.Command.{Command}
-use Rattle.ob_state.specs.Searches.{all_searches, most_searches}
-use Rattle.ob_state.specs.State.{empty_book}
+use Rattle.ob_state.specs.Next.{changed, next}
+use Rattle.ob_state.specs.Searches.{all_searches, change_of, most_searches}
+use Rattle.ob_state.specs.State.{BookState, empty_book}
 use Rattle.ob_book.specs.Acts.{ActState, Referenced, act, acts, is_accepted, of_commands, start, take_on}
-use Rattle.ob_book.specs.Searches.{Bound, SearchesAddUp, SearchesOfBoth, searches_of_act, searches_of_acts}
+use Rattle.ob_book.specs.Searches.{Bound, SearchesAddUp, SearchesOfBoth, searches_of_act, searches_of_acts, searches_of_replay}
 use Rattle.ob_book.proofs.ActLaws.{acts_period, one_act}
 
 abbrev commands_of : List Referenced → List Command
@@ -39,5 +44,25 @@ searches_add_up bound p list =
     ∙ (let all = all_acts_more bound p (start p) list refl in omega (arith, all))
 
 pub searches_of_both : SearchesOfBoth
-searches_of_both bound b [] ys = refl
+searches_of_both bound b [] ys = omega arith
 searches_of_both bound b (x ∷ xs) ys = omega (arith, searches_of_both bound (act b x) xs ys)
+
+-- ---- two bounds that are the same for each change
+same_of_change : (f h : Change → ℕ) → ((c : Change) → f c ≡ h c) → (o : Option Change) → option_map_or f o 0 ≡ option_map_or h o 0
+same_of_change f h same None = refl
+same_of_change f h same (Some c) = same c
+
+module _ (one other : Bound) (same : (net : Network) (entries : List Entry) (period : Calendar) (c : Change) → one net entries period c ≡ other net entries period c) where
+  -- are so for each command
+  pub same_of_command : (b : BookState) (command : Command) → most_searches one b command ≡ most_searches other b command
+  same_of_command b command =
+      same_of_change (one (changed b command).network b.entries b.period) (other (changed b command).network b.entries b.period)
+      (same (changed b command).network b.entries b.period) (change_of b command)
+
+  same_of_all : (b : BookState) (list : List Command) → all_searches one b list ≡ all_searches other b list
+  same_of_all b [] = refl
+  same_of_all b (c ∷ list) = omega (arith, same_of_command b c, same_of_all (next b c) list)
+
+  -- and for each book
+  pub same_of_replay : (b : ActState) → searches_of_replay one b ≡ searches_of_replay other b
+  same_of_replay b = let all = same_of_all (empty_book b.book.period) (commands_of b.accepted) in omega (arith, all)

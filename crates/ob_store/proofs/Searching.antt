@@ -1,6 +1,11 @@
 -- How often the calls of a keeper search.
-use Rattle.std.proofs.Common.{◌≡◌, ◌∙◌, ℕ, ◌+◌, ◌≤◌, List, None, Some, Option, refl, sym, ap, ap₂, arith}
+use Rattle.std.proofs.Common.{◌≡◌, ◌∙◌, ℕ, ◌+◌, ◌≤◌, List, [], ◌∷◌, ◌++◌, None, Some, Option, Ok, Err, Result, refl, sym, ap, ap₂, arith}
+use Rattle.std.specs.Prelude.{⊤}
+use Rattle.std.proofs.lemmas.List.Sums.{fold-append}
 use Rattle.sqlite.specs.Tree.{Trees}
+use Rattle.sqlite_trees.specs.declared.store.Store.{Ghosts}
+use Rattle.sqlite.specs.Held.{state}
+use Rattle.ob_time.specs.Calendar.{Calendar}
 use Rattle.ob_base.specs.declared.stop.Refusal.{Refusal}
 use Rattle.ob_command.specs.declared.command.Command.{Command}
 use Rattle.std.specs.Option.{option_map, option_map_or}
@@ -8,8 +13,9 @@ use Rattle.ob_state.specs.State.{BookState, empty_book}
 use Rattle.ob_state.specs.States.{BookValue}
 use Rattle.ob_state.specs.Refusals.{refusal}
 use Rattle.ob_state.specs.Searches.{all_searches, most_searches}
-use Rattle.ob_book.specs.Acts.{ActState, Referenced, number_of}
-use Rattle.ob_book.specs.Searches.{Bound, searches_of_act}
+use Rattle.ob_book.specs.Acts.{ActState, Referenced, act, acts, number_of, start}
+use Rattle.ob_book.specs.Searches.{Bound, SearchesAddUp, SearchesOfBoth, searches_of_act, searches_of_acts, searches_of_replay}
+use Rattle.ob_record.specs.Reached.{IsReached, ReachedAreFew}
 use Rattle.ob_sql_rows.specs.declared.version.Version.TheVariants.{Two}
 use Rattle.ob_sql_read.specs.declared.filed.Filed.{Filed}
 use Rattle.ob_sql_read.specs.Listing.{filed_of}
@@ -20,7 +26,9 @@ use Rattle.ob_store.specs.Keepers.{OnlySearches}
 use Rattle.ob_store.specs.Keeping.{KeeperValue}
 use Rattle.ob_store.specs.Laws.{Laws}
 use Rattle.ob_store.specs.Leading.{IsNewBook}
-use Rattle.ob_store.specs.Searching.{IsSearchedBy, IsSearchedFor}
+use Rattle.ob_store.specs.Loading.{trees_in}
+use Rattle.ob_store.specs.Searching.{IsSearchedBy, IsSearchedFor, LoadsAsReplayed, ReplayGrows}
+use Rattle.ob_store.proofs.Crashing.{book_left}
 use Rattle.ob_store.proofs.Leading.{commands_are, from_is}
 
 -- ---- a load
@@ -72,3 +80,26 @@ searched_over bound x s command old n m same is most = let here = ap (λ y. most
 -- where only the network was searched, a keeper is what it was but for the searches
 pub only_searched : {S : Type 0} (old new : KeeperValue S) → OnlySearches old new → record old { searches = new.searches } ≡ new
 only_searched {S} old new same = ap₂ (λ c o. let k : KeeperValue S = record { conn = c; book = o; searches = new.searches } in k) (sym same.0) (sym same.1)
+
+-- ---- calls one after another
+module _ (both : SearchesOfBoth) (add_up : SearchesAddUp) where
+  -- a book that its commands lead to, and one command more
+  grows_from : (bound : Bound) (p : Calendar) (list : List Referenced) (b : ActState) (a : Referenced) → acts (start p) list ≡ b
+      → searches_of_replay bound (act b a) ≡ searches_of_replay bound b + searches_of_act bound b a
+  grows_from bound p list b a led =
+      let more : acts (start p) (list ++ a ∷ []) ≡ act b a = fold-append act (start p) list (a ∷ []) ∙ ap (λ x. act x a) led in
+      let now = ap (searches_of_replay bound) (sym more) ∙ add_up bound p (list ++ a ∷ []) in
+      let before = ap (searches_of_replay bound) (sym led) ∙ add_up bound p list in
+      let parts = both bound (start p) list (a ∷ []) in
+      let last = ap (λ x. searches_of_acts bound x (a ∷ [])) led in
+      omega (arith, now, before, parts, last)
+
+  pub replay_grows : ReplayGrows
+  replay_grows bound b a reached = grows_from bound b.book.period b.accepted b a reached.in_turn
+
+-- the tables of a store that keeps a book name that book
+pub loads_as_replayed : {S : Type 0} (g : Ghosts S) → ReachedAreFew → LoadsAsReplayed g
+loads_as_replayed g few bound old new (Ok done) loads searches clean b keeps =
+    let it = keeps.kept.settled (loads.clean clean) (loads.answers.live clean tt) in
+    searches clean it.schema b (book_left few (trees_in g old.conn) b keeps.reached keeps.valid it.holds.rows)
+loads_as_replayed g few bound old new (Err stop) loads searches clean b keeps = tt

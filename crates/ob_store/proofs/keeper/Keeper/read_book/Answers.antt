@@ -1,4 +1,4 @@
-use Rattle.std.proofs.Common.{◌≡◌, rules, IsTrue, Option, Ok, Err, Some, refl, ap, subst}
+use Rattle.std.proofs.Common.{◌≡◌, arith, rules, IsTrue, Option, Ok, Err, Some, refl, ap, subst}
 use Rattle.std.specs.Prelude.{⊤}
 use Rattle.std.specs.Option.{option_map, option_map_or}
 use Rattle.sqlite.specs.Held.{Held, state}
@@ -51,3 +51,8 @@ pub returns-in-Ok-clause-searches : goal.returns-in-Ok-clause-searches
 returns-in-Ok-clause-searches g c =
     let conn_is : c.self.inside.conn ≡ c.args.self.now.conn = ap (λ (k : KeeperValue g.row.S.Denot). k.conn) c.self.view_is in
     subst (λ (h : Held g.row.S.Denot). HasCleanDisk (state g.S.Store c.load_on-read.new.conn) → h.schema ≡ book_schema → IsSearchedFor g.T.Timeline.bound (state g.S.Store h).now.trees c.in-Ok.book.searches) conn_is c.in-Ok.ensures.searches
+
+pub returns-in-Err-clause-searches : goal.returns-in-Err-clause-searches
+returns-in-Err-clause-searches g c =
+    let is : option_map_or (λ (b : BookValue). b.searches) c.self.inside.book 0 ≡ c.args.self.now.searches = ap (λ (k : KeeperValue g.row.S.Denot). k.searches) c.self.view_is in
+    omega (arith, is, c.settle.ensures.searches)
