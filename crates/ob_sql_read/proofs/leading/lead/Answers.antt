@@ -23,8 +23,8 @@ commands-preserved g c =
       ap (λ (s : BookState). leads Two s (drop (c.commands.at + 1) list)) next_is ∙ leads_on Two b list c.commands.at f low here (ap (λ (r : Option Refusal). is_none r) taken) ∙ c.commands.invariant.0,
       λ noted. c.adopts.ensures.noted was (c.commands.invariant.1 noted),
       (let one = left_on g.T.Timeline.bound b list c.commands.at f low here in
-      let others = left_from g.T.Timeline.bound c.adopts.new.book.state (next b f.command) (drop (c.commands.at + 1) list) next_is in
-      omega (arith, one, others, c.adopts.ensures.searches, c.commands.invariant.2)),
+          let others = left_from g.T.Timeline.bound c.adopts.new.book.state (next b f.command) (drop (c.commands.at + 1) list) next_is in
+          omega (arith, one, others, c.adopts.ensures.searches, c.commands.invariant.2)),
     )
 
 pub returns-then-not-branch-clause-accepted : goal.returns-then-not-branch-clause-accepted

@@ -61,8 +61,8 @@ commands-preserved g c =
           ),
       λ v t keeps. step.kept v t (c.commands.invariant.7 v t keeps),
       (let one = left_on g.T.Timeline.bound b list c.commands.at f low here in
-      let others = left_from g.T.Timeline.bound c.takes_on.new.book.state (next b f.command) (drop (c.commands.at + 1) list) next_is in
-      omega (arith, one, others, step.searches, c.commands.invariant.8)),
+          let others = left_from g.T.Timeline.bound c.takes_on.new.book.state (next b f.command) (drop (c.commands.at + 1) list) next_is in
+          omega (arith, one, others, step.searches, c.commands.invariant.8)),
     )
 
 pub returns-then-not-branch-clause-moved : goal.returns-then-not-branch-clause-moved
