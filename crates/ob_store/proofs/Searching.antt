@@ -36,7 +36,7 @@ use Rattle.ob_store.proofs.Leading.{commands_are, from_is}
 pub searched_by : (bound : Bound) (it : Named) (first : BookState) → IsNewBook it.heading first → (list : List Filed) → list ≡ it.commands.items → (n m : ℕ) → m ≤ 1
     → n ≤ m + all_searches bound first (commands_of (filed_of list)) → IsSearchedBy bound it n
 searched_by bound it first new list is n m one more =
-    (first, new, let same = ap (λ l. all_searches bound first (commands_of (filed_of l))) is in omega (arith, one, more, same))
+    (first, new, (let same = ap (λ l. all_searches bound first (commands_of (filed_of l))) is in omega (arith, one, more, same)))
 
 -- the commands that were read are those of the tables' book
 pub searched_for : (bound : Bound) (laws : Laws Two) (trees : Trees) (it : Named) → IsNamed Two trees it → (n : ℕ) → IsSearchedBy bound it n → IsSearchedFor bound trees n
