@@ -73,6 +73,14 @@ def program(*words: object) -> subprocess.CompletedProcess[str]:
     return subprocess.run([support.PROGRAM, *map(str, words)], capture_output=True, text=True, check=False)
 
 
+def program_at(path: str, *words: object) -> str:
+    """What a program prints that is run and ends well."""
+    done = subprocess.run([path, *map(str, words)], capture_output=True, text=True, check=False)
+    if done.returncode:
+        raise AssertionError(done.stderr)
+    return done.stdout
+
+
 def new_book(path: Path, first: str = "2025-10-20", days: int = 14, zone: str = ZONE) -> Path:
     """A book without commands, made by the program."""
     done = program("init", "--book", path, "--first", first, "--days", days, "--zone", zone)

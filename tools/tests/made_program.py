@@ -44,17 +44,33 @@ def make(book: Path, text: str) -> None:
     book.with_name(f"{book.name}-wal").write_bytes(b"")
 
 
+def import_text(book: Path, text: str) -> None:
+    """The book of its rows and of these, which it takes all."""
+    there = kept(book, "rows")
+    before = there.read_text() if there.exists() else HEADER
+    refs = {row.split(",")[1] for row in before.splitlines()}
+    new = [row for row in text.removeprefix(HEADER).splitlines() if row.split(",")[1] not in refs]
+    whole = before + "".join(f"{row}\n" for row in new)
+    make(book, whole)
+    with closing(sqlite3.connect(book)) as database:
+        commands = database.execute("SELECT count(*) FROM cmd").fetchone()[0]
+    if commands != len(whole.splitlines()) - 1:
+        make(book, before)
+        sys.exit("refused: a row of these, and the book is as it was")
+    there.write_text(whole)
+    print(f"added {len(new)} again {len(text.splitlines()) - 1 - len(new)}")
+
+
 def main() -> None:
-    job, _, name, *words = sys.argv[1:]
+    job, *words = [word for word in sys.argv[1:] if word != "--whole"]
+    _, name, *words = words
     book = Path(name)
     if job == "init":
         kept(book, "period").write_text(" ".join(words[1::2]))
         make(book, HEADER)
         print("created")
     elif job == "import":
-        make(book, Path(words[-1]).read_text())
-        with closing(sqlite3.connect(book)) as database:
-            print(f"added {database.execute('SELECT count(*) FROM cmd').fetchone()[0]} again 0")
+        import_text(book, Path(words[-1]).read_text())
     elif job == "table":
         print("\n".join(book_of(book).table_lines()))
     elif job == "indices":

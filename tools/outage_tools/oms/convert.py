@@ -60,6 +60,7 @@ class Run:
     args: argparse.Namespace
     conversion: Conversion
     format: Format
+    formats: dict[str, Format] = field(default_factory=dict)  # of exports that are written otherwise
     files: list[Notes] = field(default_factory=list)
     steps: list[Step] = field(default_factory=list)  # of outages, as far as they can be read
     meters: Meters | None = None  # of single services, where the register has them
@@ -71,7 +72,8 @@ class Run:
         if not path:
             return (), notes
         self.files.append(notes)
-        return Export(path, columns, required, self.format, self.conversion.complaints, notes).rows(), notes
+        form = self.formats.get(export, self.format)
+        return Export(path, columns, required, form, self.conversion.complaints, notes).rows(), notes
 
     def commands(self) -> Iterator[list[str]]:
         """The commands of all files, as far as their rows can be taken."""
@@ -158,6 +160,13 @@ def add_export_arguments(parser: Parser, are_required: bool = False) -> None:
     """The options that name the exports, and how they are read."""
     for export, text in EXPORTS.items():
         parser.add_argument(f"--{export}", metavar="FILE", action=Once, required=are_required, help=text)
+    add_outage_arguments(parser, are_required)
+    add_keys_argument(parser, "the customers have keys of their own: the table of their numbers, which goes on")
+    add_format_arguments(parser)
+
+
+def add_outage_arguments(parser: Parser, are_required: bool = False) -> None:
+    """The options that say how rows of outages are taken."""
     parser.add_argument(
         "--zone",
         metavar="RULE",
@@ -183,8 +192,6 @@ def add_export_arguments(parser: Parser, are_required: bool = False) -> None:
         help="a value of the column status that isn't worth a note, as closed, completed and restored aren't",
     )
     parser.add_argument("--crew", default="OMS", help="the crew if a row names none (OMS)")
-    add_keys_argument(parser, "the customers have keys of their own: the table of their numbers, which goes on")
-    add_format_arguments(parser)
 
 
 def add_period_arguments(parser: Parser, are_required: bool = False) -> None:
@@ -193,6 +200,10 @@ def add_period_arguments(parser: Parser, are_required: bool = False) -> None:
         "--first", metavar="DATE", required=are_required, help="the period's first day, if there is no book yet"
     )
     parser.add_argument("--days", metavar="N", type=days_argument, required=are_required, help="how many days it has")
+    add_overlaps_argument(parser)
+
+
+def add_overlaps_argument(parser: Parser) -> None:
     parser.add_argument(
         "--overlaps",
         choices=["refuse", "join"],

@@ -15,6 +15,9 @@ class Service:
     since: int
     until: int | None
 
+    def has(self, second: int) -> bool:
+        return self.since <= second and (self.until is None or second < self.until)
+
 
 @dataclass(frozen=True)
 class Known:

@@ -1,97 +1,28 @@
 """A network that changed, against a book: what the book has keeps its names, and devices that are otherwise end and begin anew.
 
 No command changes a device's ends, its normal position, a section's feeder or a customer's section. So a device that is otherwise ends
-at a moment, and another one begins under a further name; sections keep the names under which the book has their customers. What can't
-be said is refused by its row, or told.
+at a moment, and another one begins under a further name; sections keep the names under which the book has their customers; customers
+with keys go on elsewhere under further numbers (moves.py). What can't be said is refused by its row, or told.
 """
 
 from collections import Counter, defaultdict
-from collections.abc import Iterable, Iterator
+from collections.abc import Iterable, Iterator, Set
 from dataclasses import dataclass, field, replace
 
-from outage_tools.keys import Keys
-from outage_tools.normal_state import SOURCE
-from outage_tools.oms.complaints import BadRow, Complaints
+from outage_tools.errors import BookError
+from outage_tools.oms.complaints import BadRow, Complaints, Notes
 from outage_tools.oms.conversion import MOST_NAME
-from outage_tools.oms.fields import moment_text, read_moment, read_zone
+from outage_tools.oms.fields import read_moment, read_zone
 from outage_tools.oms.files import Row, Spot
-from outage_tools.oms.known import Known, Service
 from outage_tools.sections.cut import GRID_AREA, Cut
 from outage_tools.sections.model import DeviceRow, Model, NodeRow
+from outage_tools.sections.moves import MOVED, parts_of
 from outage_tools.sections.naming import told_apart
 from outage_tools.sections.placing import Placed
-from outage_tools.zone import Zone
+from outage_tools.sections.there import There
 
-
-@dataclass(frozen=True)
-class Life:
-    """A device of the book: the names of its nodes, its normal position, and the seconds of its life."""
-
-    ends: frozenset[str]
-    is_closed: bool
-    since: int
-    until: int | None
-
-    def has(self, second: int) -> bool:
-        return self.since <= second and (self.until is None or second < self.until)
-
-
-@dataclass
-class There:
-    """What the book has, and the second from which the network is as the export has it."""
-
-    zone: Zone
-    at: int
-    nodes: dict[str, int | None] = field(default_factory=dict)  # with the feeders of sections
-    devices: dict[str, Life] = field(default_factory=dict)
-    ends: dict[str, tuple[str, str]] = field(default_factory=dict)
-    customers: dict[int, Service] = field(default_factory=dict)
-    dates: tuple[str, ...] = ()
-    keys: Keys | None = None  # of the customers
-    supply: dict[str, str] = field(
-        default_factory=dict
-    )  # the section that supplies a service, by the one behind its meter
-
-    def take_meters(self, names: Iterable[str]) -> None:
-        """Finds the sections behind meters that are devices of the book (oms/services.py), by the names of the register's meters."""
-        count = Counter(end for ends in self.ends.values() for end in ends)
-        for name in names:
-            ends = self.ends.get(name, ())
-            behind = [end for end in ends if count[end] == 1]
-            if len(behind) == 1:
-                self.supply[behind[0]] = next(end for end in ends if end != behind[0])
-
-    def at_supply(self, service: Service) -> Service:
-        """The service at the section that supplies it, where it is behind its meter."""
-        return replace(service, section=self.supply.get(service.section, service.section))
-
-    def service_of(self, customer: str) -> Service | None:
-        """The service of a customer as the register calls it; of several under one key that of the second, else the last."""
-        if self.keys is None:
-            found = self.customers.get(int(customer)) if customer.isdecimal() else None
-            return None if found is None else self.at_supply(found)
-        numbers = self.keys.numbers.get(customer, [])
-        services = [self.at_supply(self.customers[number]) for number in numbers if number in self.customers]
-        now = [each for each in services if each.since <= self.at and (each.until is None or self.at < each.until)]
-        return next(iter([*now, *reversed(services)]), None)
-
-    def text(self, second: int) -> str:
-        return moment_text(second, self.zone)
-
-
-def there_of(known: Known, at: str, dates: tuple[str, ...], keys: Keys | None = None) -> There:
-    book = known.book
-    assert book is not None  # it was opened
-    zone = book.period.zone
-    found = There(zone, read_moment(at, "", zone, "--at", dates), customers=known.customers, dates=dates, keys=keys)
-    for node, name in book.nodes.items():
-        if name != SOURCE:
-            found.nodes[name] = book.sections[node].feeder if node in book.sections else None
-    for each in book.devices:
-        ends = book.nodes[each.a], book.nodes[each.b]
-        found.ends[each.name] = ends
-        found.devices[each.name] = Life(frozenset(ends), each.is_closed, each.since, each.until)
-    return found
+IN_ORDER = "exports go in by the order of their moments"
+LAST_RUN = "did this export go in already? Else name the folder of the last one that did"
 
 
 # Names of buses and sections.
@@ -104,8 +35,9 @@ def kept_names(
     in it in the earlier run."""
     votes: dict[tuple[int, str], list[int]] = defaultdict(lambda: [0, 0])
     for number, area in placed.area.items():
-        service = there.service_of(cut.raw.customers[number].number)
-        if service is not None:
+        customer = cut.raw.customers[number]
+        service = there.service_of(customer.number)
+        if service is not None and there.covers(customer):
             votes[area, service.section][0] += 1
     for area, edges in cut.inside().items():
         for edge in edges:
@@ -125,6 +57,27 @@ def kept_names(
     return found
 
 
+def renamed_feeders(
+    there: There, of_area: dict[int, str], kept: dict[int, str], earlier: dict[str, int]
+) -> dict[str, int]:
+    """Circuits under another name: new ones with the feeder that most of their sections have in the book, if no circuit of the export
+    is that feeder. Where circuits are numbers each is a feeder of its own."""
+    now = {*of_area.values()}
+    free = {number for name, number in earlier.items() if name not in now}
+    if all(name == str(number) for name, number in earlier.items()):
+        return {}
+    votes = Counter(
+        (of_area[area], feeder)
+        for area, node in kept.items()
+        if of_area.get(area, "") not in ("", *earlier) and (feeder := there.nodes[node]) in free
+    )
+    found: dict[str, int] = {}
+    for (circuit, feeder), _ in sorted(votes.items(), key=lambda each: (-each[1], each[0])):
+        if feeder is not None and circuit not in found and feeder not in found.values():
+            found[circuit] = feeder
+    return found
+
+
 # Rows.
 
 
@@ -136,6 +89,7 @@ class Change:
     model: Model
     complaints: Complaints
     said: list[str] = field(default_factory=list)
+    notes: dict[str, Notes] = field(default_factory=dict)  # by their files
 
     @property
     def names(self) -> dict[str, list[str]]:
@@ -144,6 +98,7 @@ class Change:
 
     def apply(self) -> None:
         """Changes the model's rows, and tells what no row says."""
+        self.check_order()
         self.check_customers()
         self.check_nodes()
         devices = [row for each in self.model.devices for row in self.rows_of(each)]
@@ -156,12 +111,31 @@ class Change:
         self.model.devices = devices
         self.model.has_lives = True
 
+    def check_order(self) -> None:
+        """Nothing of the book's network begins after the second of this export: it would be put before a later one."""
+        later = {name: life.since for name, life in self.there.devices.items() if life.since > self.there.at}
+        told = False
+        for label, names in self.names.items():
+            for name in (each for each in names if each in later):
+                text = f"{name} begins in the book at {self.there.text(later[name])}, after --at: {IN_ORDER}"
+                self.complaints.add(self.spot_of(label), text)
+                told = True
+        if later and not told:
+            name, since = min(later.items(), key=lambda each: (each[1], each[0]))
+            raise BookError(f"the device {name} begins in the book at {self.there.text(since)}, after --at: {IN_ORDER}")
+
     def check_customers(self) -> None:
-        """A customer stays on its section."""
+        """A customer stays on its section, or goes on under a further number of its key."""
         for number, section in self.model.sections.items():
             customer = self.model.raw.customers[number]
             before = self.there.service_of(customer.number)
-            if before is not None and before.section != section:
+            is_moved = before is not None and before.section != section and self.there.covers(customer)
+            parts = [] if customer.meter in self.model.meters else parts_of(self.there, customer, section)
+            if parts:
+                self.model.parts[number] = parts
+            if parts and is_moved:
+                self.notes[customer.spot.file].noticed(MOVED, customer.spot)
+            elif before is not None and is_moved:
                 self.complaints.add(
                     customer.spot,
                     f"customer {customer.number} is on {before.section} in the book, and on {section} in this export: end its"
@@ -181,13 +155,20 @@ class Change:
             nodes.append(node)
         self.model.nodes = nodes
         gone = self.there.nodes.keys() - {node.name for node in nodes} - self.there.supply.keys()
-        at = self.there.at
-        served = (each for each in self.there.customers.values() if each.since <= at)
-        counts = Counter(each.section for each in served if each.until is None or at < each.until)
-        for name in sorted(gone & counts.keys()):
+        for name, count in sorted(self.left_on(gone).items()):
             self.said.append(
-                f"{name} isn't in the export any more; customers of the book there, without supply: {counts[name]}"
+                f"{name} isn't in the export any more; customers of the book there, without supply: {count}"
             )
+
+    def left_on(self, gone: Set[str]) -> Counter[str]:
+        """The customers of the book on sections that aren't there any more, but for those whose service the register ends."""
+        there, model = self.there, self.model
+        counts = Counter(each.section for each in there.customers.values() if each.has(there.at))
+        for number, section in model.sections.items():
+            service = there.service_of(model.raw.customers[number].number)
+            if service is not None and service.section in gone and (section in gone or number in model.parts):
+                counts[service.section] -= service.has(there.at)
+        return Counter({name: counts[name] for name in gone if counts[name] > 0})
 
     def rows_of(self, row: DeviceRow) -> Iterator[DeviceRow]:
         """The row of a device that is as it was; else of its end and of its beginning under a further name."""
@@ -200,15 +181,9 @@ class Change:
             if (life.ends, life.is_closed) == (frozenset(row.ends), row.is_closed):
                 yield replace(row, name=living)
                 return
-            if life.since >= there.at:
-                spot = (
-                    self.model.raw.edges[row.label].spot
-                    if row.label in self.model.raw.edges
-                    else self.spot_of_meter(row.label)
-                )
-                self.complaints.add(
-                    spot, f"{living} begins in the book at --at, and is otherwise here: give a later --at"
-                )
+            if life.since == there.at:
+                text = f"{living} begins in the book at --at, and is otherwise here: give a later --at"
+                self.complaints.add(self.spot_of(row.label), text)
             yield self.ended(living, row.label)
         fresh = next((name for name in names if name not in there.devices), None) or self.new_name(row.label, names)
         if fresh not in names:
@@ -219,8 +194,10 @@ class Change:
         )
         yield replace(row, name=fresh, since=there.text(there.at))
 
-    def spot_of_meter(self, label: str) -> Spot:
-        return next(each.spot for each in self.model.raw.customers if each.meter == label)
+    def spot_of(self, label: str) -> Spot:
+        """The row of an edge, or of a customer behind a meter."""
+        edge = self.model.raw.edges.get(label)
+        return edge.spot if edge else next(each.spot for each in self.model.raw.customers if each.meter == label)
 
     def ended(self, name: str, label: str) -> DeviceRow:
         life, there = self.there.devices[name], self.there
@@ -228,13 +205,17 @@ class Change:
         return DeviceRow(name, label, there.ends[name], life.is_closed, since, there.text(there.at))
 
     def new_name(self, label: str, names: list[str]) -> str:
-        """The first name of a device with a number that nothing has."""
-        told = (*self.names.values(), *self.model.gone.values())
-        taken = {*self.there.devices, *self.there.nodes, *(each for listed in told for each in listed)}
+        """The first name of a device with a number that nothing has. If the book has a device of such a name that the earlier run
+        doesn't know, another export went in since then."""
+        told = {each for listed in (*self.names.values(), *self.model.gone.values()) for each in listed}
         for number in range(2, 1_000):
             name = f"{names[0]}-{number}"
             name = name if len(name) <= MOST_NAME else told_apart(name, f"{label} {number}")
-            if name not in taken:
+            if name in self.there.devices and name not in told:
+                text = f"the book has {name}, which the folder of --as doesn't know: {LAST_RUN}"
+                self.complaints.add(self.spot_of(label), text)
+                told.add(name)
+            if name not in told and name not in self.there.nodes:
                 return name
         raise BadRow(f"{label} has too many names")
 
@@ -258,7 +239,7 @@ class Change:
         names = self.model.names_of(label)
         if len(names) == 1:
             return names[0]
-        zone = read_zone(row["zone"]) if row["zone"] else self.there.zone
+        zone = read_zone(row["zone"]) if row["zone"] else self.there.rows_zone
         moments = [
             read_moment(row[column], row[f"{column}_hour"], zone, column, self.there.dates, wants_clock=True)
             for column in ("out", "restored")

@@ -4,14 +4,17 @@
                               [--oms oms.csv | --only-opened oms.csv] [--device KINDS] [--word MEANING=WORDS] ..
     python3 tools/sections.py --cim model.xml | --opendss master.dss .. -o FOLDER
     python3 tools/sections.py .. -o FOLDER --as EARLIER --book BOOK --at MOMENT [--table FILE | --program PATH]
+                              [--import [--causes causes.csv]]
 
 FOLDER gets gis.csv, customers.csv and, if tickets are given, oms.csv, in the form of docs/use/IMPORTING.md; names.csv, which says
 what each edge is in them; feeders.csv, the circuit of each feeder's number. All is written, or nothing: whatever can't be cut is told
-by its row, and the status is 1. docs/use/NETWORK.md says what is refused and what is left out.
+by its row, and the status is 1. With --import the book gets what it doesn't have of them, by the program, all of it or nothing.
+docs/use/NETWORK.md says what is refused and what is left out.
 """
 
 import argparse
 from collections import Counter
+from dataclasses import dataclass
 from pathlib import Path
 
 from outage_tools.cli import Once, Parser, add_table_arguments, print_error, run_job
@@ -19,23 +22,27 @@ from outage_tools.compare import open_book
 from outage_tools.district_files import read_rows
 from outage_tools.errors import BookError
 from outage_tools.keys import add_keys_argument, keys_for
+from outage_tools.oms.convert import save_keys
 from outage_tools.oms.complaints import BadRow
 from outage_tools.oms.files import Row, add_format_arguments, format_of
-from outage_tools.oms.known import known_of
+from outage_tools.oms.known import Known, known_of
 from outage_tools.oms.network import MOST_NODES
 from outage_tools.oms.told import lines_of_notes
 from outage_tools.oms.writing import whole_file
-from outage_tools.sections.changed import Change, There, there_of
+from outage_tools.sections.changed import Change
 from outage_tools.sections.cim import read_cim
 from outage_tools.sections.cut import Choice
 from outage_tools.sections.edges import DEVICE_KINDS, Labels, labels_of
+from outage_tools.sections.importing import ROWS, Loading, add_import_arguments, check_import_words, import_rows
+from outage_tools.sections.ledger import Ledger, ledger_of
 from outage_tools.sections.loads import numbers_in, take_customers
 from outage_tools.sections.making import Maker
 from outage_tools.sections.model import Earlier, Model
 from outage_tools.sections.opendss import read_opendss
 from outage_tools.sections.reading import Reading, Tickets, read_customers, read_edges, read_sources, read_tickets
+from outage_tools.sections.there import There, there_of
 from outage_tools.sections.words import kinds_argument, word_argument, words_of
-from outage_tools.sections.writing import Table, report_lines, tables_of, write_tables
+from outage_tools.sections.writing import Tables, report_lines, tables_of, write_tables
 
 
 def make_parser() -> Parser:
@@ -61,15 +68,7 @@ def make_parser() -> Parser:
     )
     parser.add_argument("-o", dest="output", metavar="FOLDER", type=Path, required=True, help="where the files go")
     parser.add_argument("--report", metavar="FILE", type=Path, help="what was read, left out, noticed and refused")
-    parser.add_argument(
-        "--as", dest="earlier", metavar="FOLDER", type=Path, help="the folder of an earlier run, whose names stay"
-    )
-    parser.add_argument(
-        "--book", metavar="FILE", help="the book that was made of the earlier run: what changed since then"
-    )
-    parser.add_argument("--at", metavar="MOMENT", help="from when the network is as this export has it")
-    add_keys_argument(parser, "with --book: the table of its customers' keys")
-    add_table_arguments(parser)
+    add_book_arguments(parser)
     parser.add_argument(
         "--since", metavar="DATE", help="from when the loads of a model are served, if no customers are given"
     )
@@ -79,6 +78,20 @@ def make_parser() -> Parser:
     add_cut_arguments(parser)
     add_format_arguments(parser)
     return parser
+
+
+def add_book_arguments(parser: Parser) -> None:
+    """The words of a book that was made of an earlier run."""
+    parser.add_argument(
+        "--as", dest="earlier", metavar="FOLDER", type=Path, help="the folder of an earlier run, whose names stay"
+    )
+    parser.add_argument(
+        "--book", metavar="FILE", help="the book that was made of the earlier run: what changed since then"
+    )
+    parser.add_argument("--at", metavar="MOMENT", help="from when the network is as this export has it")
+    add_keys_argument(parser, "with --book: the table of its customers' keys")
+    add_table_arguments(parser)
+    add_import_arguments(parser)
 
 
 def add_cut_arguments(parser: Parser) -> None:
@@ -180,12 +193,21 @@ def print_summary(model: Model, folder: Path, files: list[str]) -> None:
     print(f"written to {folder}: {', '.join(files)}")
 
 
-def make(args: argparse.Namespace, reading: Reading, said: list[str]) -> tuple[Model, dict[str, Table]]:
+@dataclass(frozen=True)
+class Book:
+    """What the book has, the moment of the change, and the exports that went in before."""
+
+    known: Known
+    there: There
+    ledger: Ledger
+
+
+def make(args: argparse.Namespace, reading: Reading, book: Book | None, said: list[str]) -> tuple[Model, Tables]:
     """Reads all, and makes what is written."""
     tickets = read_all(args, reading)
     earlier = earlier_of(args.earlier)
     numbers = {} if args.customers else take_customers(reading.raw, args.since, earlier.customers)
-    there = book_of(args) if args.book else None
+    there = book.there if book else None
     made = Maker(reading, choice_of(args, reading, tickets), earlier, args.meshed, there, said).model(tickets)
     change = Change(there, made, reading.complaints, said) if there else None
 
@@ -197,25 +219,37 @@ def make(args: argparse.Namespace, reading: Reading, said: list[str]) -> tuple[M
                 name = change.name_in(row, label)
         return name
 
-    return made, tables_of(made, reading, tickets, numbers, name_in)
+    tables = tables_of(made, reading, tickets, numbers, name_in)
+    tables = {name: (columns, list(rows)) for name, (columns, rows) in tables.items()}
+    reading.refuse()
+    if book and args.imports:
+        loading = Loading(args, book.known, reading, made, tickets)
+        tables[ROWS] = loading.table(tables)
+        reading.refuse()
+        reading.files += loading.files
+        save_keys(loading.keys)
+    return made, tables
 
 
-def book_of(args: argparse.Namespace) -> There:
+def book_of(args: argparse.Namespace) -> Book:
     with open_book(args.book, args.table, args.program) as found:
         known = known_of(found)
-        keys = keys_for(args.keys, args.book, known.customer_refs, bool(args.customers))
-        try:
-            return there_of(known, args.at, tuple(args.dates), keys)
-        except BadRow as error:
-            raise BookError(str(error)) from None
+    keys = keys_for(args.keys, args.book, known.customer_refs, bool(args.customers))
+    try:
+        there = there_of(known, args.at, tuple(args.dates), keys, args.zone)
+    except BadRow as error:
+        raise BookError(str(error)) from None
+    ledger = ledger_of(args.book)
+    if args.imports:
+        ledger.check(there.at, args.earlier)
+    return Book(known, there, ledger)
 
 
 def job(args: argparse.Namespace, reading: Reading) -> None:
     said: list[str] = []
     try:
-        made, tables = make(args, reading, said)
-        tables = {name: (columns, list(rows)) for name, (columns, rows) in tables.items()}
-        reading.refuse()
+        book = book_of(args) if args.book else None
+        made, tables = make(args, reading, book, said)
         write_tables(args.output, tables)
     finally:
         if args.report:
@@ -228,6 +262,8 @@ def job(args: argparse.Namespace, reading: Reading) -> None:
         )
     for line in (*lines_of_notes(reading.files), *(f"{args.book or args.output}: {each}" for each in said)):
         print_error(f"note: {line}")
+    if book and args.imports:
+        print(import_rows(args, book.ledger, book.there.text(book.there.at)), end="")
 
 
 def check_words(parser: Parser, args: argparse.Namespace) -> None:
@@ -236,6 +272,7 @@ def check_words(parser: Parser, args: argparse.Namespace) -> None:
         parser.error("--book and --at go together")
     if args.book and not args.earlier:
         parser.error("--book wants --as: the folder of the run of which the book was made")
+    check_import_words(parser, args)
 
 
 def main() -> int:

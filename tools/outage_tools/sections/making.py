@@ -5,7 +5,7 @@ from dataclasses import dataclass, field, replace
 
 from outage_tools.normal_state import SOURCE
 from outage_tools.oms.complaints import Notes
-from outage_tools.sections.changed import Change, There, kept_names
+from outage_tools.sections.changed import Change, kept_names, renamed_feeders
 from outage_tools.sections.circuits import (
     Circuits,
     area_circuits,
@@ -22,6 +22,7 @@ from outage_tools.sections.model import DeviceRow, Earlier, Model, NodeRow
 from outage_tools.sections.naming import BUS, SECTION, book_names, node_name
 from outage_tools.sections.placing import Placed, placed_of, refuse_without_feeder
 from outage_tools.sections.reading import Reading, Tickets
+from outage_tools.sections.there import There
 
 
 @dataclass
@@ -46,7 +47,8 @@ class Maker:
         of_area = area_circuits(cut, circuits, reading.complaints)
         rings = list(rings_of(cut))
         looped = frozenset(edge.name for ring in rings for edge in ring) if self.is_meshed else frozenset()
-        placed = placed_of(cut, reading.complaints, looped)
+        past = self.there.past_section if self.there else lambda _: None
+        placed = placed_of(cut, reading.complaints, looped, past)
         refuse_without_feeder(cut, placed, of_area, reading.complaints)
         left = look_at_islands(cut, placed, {*named.edges} | self.in_book(), reading.complaints, notes)
         look_at_loops(cut, rings, of_area, self.is_meshed, reading.complaints, notes)
@@ -56,14 +58,24 @@ class Maker:
         note_differences(raw, circuits, notes)
         note_mixed(cut, circuits, of_area, notes)
         kept = kept_names(self.there, cut, placed, of_area, self.earlier.became) if self.there else {}
-        numbers = numbers_of(sorted({circuit for circuit in of_area.values() if circuit}), self.earlier.feeders)
+        numbers = self.numbers(of_area, kept)
         made = Naming(Model(raw, cut, numbers), self.earlier, of_area, left, own, kept).named(placed)
+        made.gone_feeders = {name: each for name, each in self.earlier.feeders.items() if each not in numbers.values()}
         made.of_row, made.meters = named.of_row, meters
         self.note_names(made, named, tickets, notes)
         if self.there:
-            Change(self.there, made, reading.complaints, self.said).apply()
+            Change(self.there, made, reading.complaints, self.said, notes).apply()
             reading.refuse()
         return made
+
+    def numbers(self, of_area: dict[int, str], kept: dict[int, str]) -> dict[str, int]:
+        """The feeder's number of each circuit; against a book one that is only called otherwise keeps it."""
+        earlier = self.earlier.feeders
+        renamed = renamed_feeders(self.there, of_area, kept, earlier) if self.there else {}
+        for circuit, feeder in renamed.items():
+            before = next(name for name, number in earlier.items() if number == feeder)
+            self.said.append(f"the circuit {before} is called {circuit} now, and stays feeder {feeder}")
+        return numbers_of(sorted({circuit for circuit in of_area.values() if circuit}), earlier | renamed)
 
     def named(self, tickets: Tickets | None) -> Named:
         """What the tickets name; meters that had a section in an earlier run keep it."""
@@ -149,7 +161,7 @@ class Naming:
         for meter, (area, own) in self.meters.items():
             ends = self.of_node[area], self.of_node[own]
             model.devices.append(DeviceRow(model.names[meter][0], meter, ends, True))
-        model.sections = {number: self.of_node[area] for number, area in placed.area.items()}
+        model.sections = {number: self.of_node[area] for number, area in placed.area.items()} | placed.past
         model.became = dict(self.what_became())
         return model
 

@@ -27,6 +27,15 @@ class DeviceRow:
     until: str = ""
 
 
+@dataclass(frozen=True)
+class Part:
+    """A service of a customer whose row stands for several, one behind another."""
+
+    section: str
+    since: str
+    until: str
+
+
 @dataclass
 class Earlier:
     """What an earlier run named: devices by their labels, the first name first; the labels of meters with a section of their own; the
@@ -50,10 +59,14 @@ class Model:
     nodes: list[NodeRow] = field(default_factory=list)
     devices: list[DeviceRow] = field(default_factory=list)
     sections: dict[int, str] = field(default_factory=dict)  # of customers, by their places in the register
+    parts: dict[int, list[Part]] = field(default_factory=dict)  # the services of those who were moved
     became: dict[str, tuple[str, str]] = field(default_factory=dict)
     names: dict[str, list[str]] = field(default_factory=dict)  # of devices, by their labels: the first one first
     of_row: dict[int, str] = field(default_factory=dict)  # labels, by the rows of tickets
     gone: dict[str, list[str]] = field(default_factory=dict)  # of devices that an earlier run had
+    gone_feeders: dict[str, int] = field(
+        default_factory=dict
+    )  # of circuits that it had: no other one gets their numbers
     has_lives: bool = False  # rows of devices may tell a life
     meters: dict[str, str] = field(
         default_factory=dict

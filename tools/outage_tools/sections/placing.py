@@ -1,6 +1,7 @@
 """Customers by transformer: each is on the side of its transformer that lies away from the source."""
 
 from collections import defaultdict
+from collections.abc import Callable, Sequence
 from dataclasses import dataclass, field
 
 from outage_tools.oms.complaints import BadRow, Complaints
@@ -11,9 +12,11 @@ from outage_tools.sections.edges import TRANSFORMER, Customer, Edge, Labels, lab
 
 @dataclass
 class Placed:
-    """The area of each customer of the register, and the customers of each area."""
+    """The area of each customer of the register, and the customers of each area. Those whose service is over, and where nothing is any
+    more, stay on the section that a book has."""
 
     area: dict[int, int] = field(default_factory=dict)  # by the customer's place in the register
+    past: dict[int, str] = field(default_factory=dict)
     customers: dict[int, list[Customer]] = field(default_factory=lambda: defaultdict(list))
 
     def add(self, number: int, customer: Customer, area: int) -> None:
@@ -45,12 +48,27 @@ def area_of_transformer(cut: Cut, labels: Labels, label: str, looped: frozenset[
     return away_side(cut, edge, looped)
 
 
-def placed_of(cut: Cut, complaints: Complaints, looped: frozenset[str]) -> Placed:
+def is_there(cut: Cut, labels: Labels, customer: Customer) -> bool:
+    """The network has what supplies the customer, and a way leads there."""
+    if customer.node:
+        ends: Sequence[str] = [customer.node]
+    else:
+        name = labels.find(customer.transformer)
+        ends = cut.raw.edges[name].ends if name is not None else []
+    return any(cut.area.get(end) in cut.reached for end in ends)
+
+
+def placed_of(
+    cut: Cut, complaints: Complaints, looped: frozenset[str], past_section: Callable[[Customer], str | None]
+) -> Placed:
     """Where each customer is; those that nothing in the network has are refused, and those on a transformer of loops that are meant."""
     raw, found = cut.raw, Placed()
     labels = labels_of(raw.edges)
     for number, customer in enumerate(raw.customers):
         with complaints.about(customer.spot):
+            if not is_there(cut, labels, customer) and (section := past_section(customer)) is not None:
+                found.past[number] = section
+                continue
             if customer.node:
                 if customer.node not in cut.area:
                     raise BadRow(f"no edge has the node {shown(customer.node)}")

@@ -15,6 +15,7 @@ from outage_tools.sections.reading import SERVICE, Reading, Tickets
 
 GIS = ("type", "name", "feeder", "from", "to", "normal", "since", "until")
 Table = tuple[Sequence[str], Iterable[Sequence[object]]]
+Tables = dict[str, Table]  # by the files' names
 NameIn = Callable[[Row, str], str]  # the name of the device of a label in a row of a ticket
 
 
@@ -30,9 +31,11 @@ def gis_rows(model: Model) -> Iterator[tuple[object, ...]]:
 
 def customer_rows(model: Model, columns: list[str]) -> Iterator[tuple[object, ...]]:
     for number, customer in enumerate(model.raw.customers):
-        service = dict(zip(SERVICE, customer.service))
+        own = model.sections[number], dict(zip(SERVICE, customer.service))
+        parts = [(each.section, {"since": each.since, "until": each.until}) for each in model.parts.get(number, ())]
         meter = [model.meters.get(customer.meter, "")] if model.meters else []
-        yield customer.number, model.sections[number], *(service[column] for column in columns), *meter
+        for section, service in parts or [own]:
+            yield customer.number, section, *(service.get(column, "") for column in columns), *meter
 
 
 def name_rows(model: Model, customers: Numbers) -> Iterator[tuple[object, ...]]:
@@ -55,11 +58,9 @@ def ticket_rows(model: Model, tickets: Tickets, name_in: NameIn) -> Iterator[tup
         yield tuple(name if column == "device" else row[column] for column in tickets.columns)
 
 
-def tables_of(
-    model: Model, reading: Reading, tickets: Tickets | None, customers: Numbers, name_in: NameIn
-) -> dict[str, Table]:
+def tables_of(model: Model, reading: Reading, tickets: Tickets | None, customers: Numbers, name_in: NameIn) -> Tables:
     """The files by their names; `customers` are the numbers of a model's loads."""
-    found: dict[str, Table] = {"gis.csv": (GIS if model.has_lives else GIS[:6], gis_rows(model))}
+    found: Tables = {"gis.csv": (GIS if model.has_lives else GIS[:6], gis_rows(model))}
     if model.raw.has_customers:
         told = {column for notes in reading.files if notes.export == "customers" for column in notes.columns}
         columns = [column for column in SERVICE if column in told or column in ("since", "until")]
@@ -68,12 +69,12 @@ def tables_of(
     if tickets:
         found["oms.csv"] = tickets.columns, ticket_rows(model, tickets, name_in)
     found["names.csv"] = ("label", "kind", "became", "name"), name_rows(model, customers)
-    feeders = sorted((number, circuit) for circuit, number in model.feeders.items())
+    feeders = sorted((number, circuit) for circuit, number in (model.gone_feeders | model.feeders).items())
     found["feeders.csv"] = ("feeder", "name"), feeders
     return found
 
 
-def write_tables(folder: Path, tables: dict[str, Table]) -> None:
+def write_tables(folder: Path, tables: Tables) -> None:
     """The files in a folder: all of them, or none."""
     try:
         folder.mkdir(parents=True, exist_ok=True)
