@@ -12,10 +12,10 @@ use Rattle.std.proofs.lemmas.List.Elements.{All-head, All-tail}
 use Rattle.ob_sheet.specs.declared.Entry.{Entry}
 use Rattle.ob_sheet.specs.Order.{entry_of}
 use Rattle.ob_sheet.specs.Sheet.{AreNumbered}
-use Rattle.ob_sweep.specs.Changed.{changed, Applies}
+use Rattle.ob_sweep.specs.SheetChanges.{with_change, CanChange}
 use Rattle.ob_sweep.specs.declared.Run.{Run}
-use Rattle.ob_sweep.specs.declared.change.Change.{Change}
-use Rattle.ob_sweep.specs.declared.change.Change.TheVariants.{Entered, Corrected, Withdrawn, Bus, Section, Joined, Lived}
+use Rattle.ob_sweep.specs.declared.change.SheetChange.{SheetChange}
+use Rattle.ob_sweep.specs.declared.change.SheetChange.TheVariants.{Entered, Corrected, Withdrawn}
 use Rattle.ob_post.specs.CauseLaws.{EnteredCause, ChangedCause, SameCause}
 use Rattle.ob_post.specs.SectionAmounts.{run_cause}
 use Rattle.ob_post.specs.Causes.{BeginAtCutters, StayBut}
@@ -82,24 +82,20 @@ not_cut entries old (Some n) s on ne h =
     ne cc)
 
 -- the causes of all runs but the one that was looked for stay
-pub corrected_stay : (entries : List Entry) (old new : Entry) (runs : List Run) (r : Result ℕ ℕ) → ChangedCause → Applies (Corrected old new) entries → BeginAtCutters entries runs
+pub corrected_stay : (entries : List Entry) (old new : Entry) (runs : List Run) (r : Result ℕ ℕ) → ChangedCause → CanChange (Corrected old new) entries → BeginAtCutters entries runs
     → All (λ r. r.since < r.until) runs → AllPairs (λ r s. r.until < s.since) runs → IsSearchInRange r (length runs) → IsBinarySearchResult (λ s. nat_cmp s.since old.second) runs r
-    → StayBut (result_ok r) entries (changed (Corrected old new) entries) runs
+    → StayBut (result_ok r) entries (with_change (Corrected old new) entries) runs
 corrected_stay entries old new runs r by_change ok cut some rising range search = λ k d l ne.
     let run = get_or runs k d in
     by_change entries old.«no» (λ _. new) old run (λ e q. ok.1) ok.0.on
     ∙ ap (λ b. cond b new.cause (run_cause entries run))
     (not_cut entries old run.cutter run.since ok.0.on (elsewhere runs old.second r k d some rising range search l ne) (cut k d l))
 
--- an entry that is new or withdrawn changes no cause, nor does a change of the network
-pub others_stay : (change : Change) (entries : List Entry) (runs : List Run) → EnteredCause → ChangedCause → SameCause → ((old new : Entry) → change ≡ Corrected old new → ⊥) → Applies change entries → AreNumbered entries
-    → BeginAtCutters entries runs → StayBut None entries (changed change entries) runs
+-- an entry that is new or withdrawn changes no cause
+pub others_stay : (change : SheetChange) (entries : List Entry) (runs : List Run) → EnteredCause → ChangedCause → SameCause → ((old new : Entry) → change ≡ Corrected old new → ⊥) → CanChange change entries → AreNumbered entries
+    → BeginAtCutters entries runs → StayBut None entries (with_change change entries) runs
 others_stay (Entered e) entries runs by_new by_change same other ok numbered cut = λ k d l ne.
     cause_stays (Entered e) entries (get_or runs k d) by_new by_change same ok numbered tt (cutter_known entries (get_or runs k d).cutter (get_or runs k d).since numbered (cut k d l))
 others_stay (Corrected old new) entries runs by_new by_change same other ok numbered cut = absurd (other old new refl)
 others_stay (Withdrawn e) entries runs by_new by_change same other ok numbered cut = λ k d l ne.
     cause_stays (Withdrawn e) entries (get_or runs k d) by_new by_change same ok numbered tt (cutter_known entries (get_or runs k d).cutter (get_or runs k d).since numbered (cut k d l))
-others_stay Bus entries runs by_new by_change same other ok numbered cut = λ k d l ne. refl
-others_stay (Section feeder) entries runs by_new by_change same other ok numbered cut = λ k d l ne. refl
-others_stay (Joined device life) entries runs by_new by_change same other ok numbered cut = λ k d l ne. refl
-others_stay (Lived device old new) entries runs by_new by_change same other ok numbered cut = λ k d l ne. refl

@@ -4,17 +4,19 @@ use Rattle.std.specs.List.{All}
 use Rattle.ob_sheet.specs.declared.Entry.{Entry}
 use Rattle.ob_sheet.specs.Order.{entry_of}
 use Rattle.ob_sheet.specs.Sheet.{AreNumbered}
-use Rattle.ob_sweep.specs.Changed.{changed, Applies}
+use Rattle.ob_sweep.specs.SheetChanges.{with_change, CanChange}
 use Rattle.ob_sweep.specs.declared.change.Change.{Change}
-use Rattle.ob_sweep.specs.declared.change.Change.TheVariants.{Entered, Corrected, Withdrawn, Bus, Section, Joined, Lived}
+use Rattle.ob_sweep.specs.declared.change.Change.TheVariants.{Sheet, Bus, Section, Joined, Lived}
+use Rattle.ob_sweep.specs.declared.change.SheetChange.{SheetChange}
+use Rattle.ob_sweep.specs.declared.change.SheetChange.TheVariants.{Entered, Corrected, Withdrawn}
 use Rattle.ob_sweep.specs.declared.Run.{Run}
 use Rattle.ob_post.specs.SectionAmounts.{run_cause}
 
 -- the change gives no entry another cause
 abbrev pub KeepsCause : Change → Type 0
-KeepsCause (Entered e) = ⊤
-KeepsCause (Corrected old new) = new.cause ≡ old.cause
-KeepsCause (Withdrawn e) = ⊤
+KeepsCause (Sheet (Entered e)) = ⊤
+KeepsCause (Sheet (Corrected old new)) = new.cause ≡ old.cause
+KeepsCause (Sheet (Withdrawn e)) = ⊤
 KeepsCause Bus = ⊤
 KeepsCause (Section feeder) = ⊤
 KeepsCause (Joined device life) = ⊤
@@ -29,8 +31,8 @@ abbrev pub StayBut : Option ℕ → List Entry → List Entry → List Run → T
 StayBut place old new runs = (k : ℕ) (d : Run) → k < length runs → place ≢ Some k → run_cause new (slice_index_or runs k d) ≡ run_cause old (slice_index_or runs k d)
 
 -- a change that can be made of the entries of a sheet, whose causes before and after it are ones that amounts are kept for
-pub record IsSoundChange (change : Change) (entries : List Entry) : Type 0 where
-  pub applies : Applies change entries
+pub record IsSoundChange (change : SheetChange) (entries : List Entry) : Type 0 where
+  pub applies : CanChange change entries
   pub numbered : AreNumbered entries
   pub before : All (λ e. e.cause < 64) entries
-  pub after : All (λ e. e.cause < 64) (changed change entries)
+  pub after : All (λ e. e.cause < 64) (with_change change entries)

@@ -8,7 +8,7 @@ use crate::run_amounts::served_delta;
 use crate::run_causes::{cause_after, cause_before, causes_after, causes_before, place_recaused};
 use crate::{Basis, Dim, MOST_DAYS, Moved, moves, post_runs};
 use ob_base::Stop;
-use ob_sweep::{Change, Run};
+use ob_sweep::{Run, SheetChange};
 use ob_time::CivilDays;
 use std::alloc::Global;
 
@@ -81,7 +81,12 @@ impl Posting {
 
     // Gives the amounts of a section's outage intervals under the causes of a switching log after a
     // change. The error is a failed allocation; rows may have been added before it.
-    fn give_changed(&mut self, runs: &[Run], basis: &Basis<'_>, change: &Change) -> Result<(), Stop>
+    fn give_changed(
+        &mut self,
+        runs: &[Run],
+        basis: &Basis<'_>,
+        change: &SheetChange,
+    ) -> Result<(), Stop>
         requires change { IsSoundChange change.now basis.now.sheet.now.entries }
         requires feeder { 1 ≤ basis.now.feeder }
         requires within { LieInPeriod basis.now runs.now }
@@ -105,7 +110,7 @@ impl Posting {
         old: &[Run],
         new: &[Run],
         basis: &Basis<'_>,
-        change: &Change,
+        change: &SheetChange,
     ) -> Result<(), Stop>
         requires change { IsSoundChange change.now basis.now.sheet.now.entries }
         requires feeder { 1 ≤ basis.now.feeder }
@@ -130,7 +135,7 @@ impl Posting {
         taken: &[Run],
         given: &[Run],
         basis: &Basis<'_>,
-        change: &Change,
+        change: &SheetChange,
     ) -> Result<(), Stop>
         requires change { IsSoundChange change.now basis.now.sheet.now.entries }
         requires feeder { 1 ≤ basis.now.feeder }
@@ -153,7 +158,7 @@ impl Posting {
         taken: &[Run],
         given: &[Run],
         basis: &Basis<'_>,
-        change: &Change,
+        change: &SheetChange,
     ) -> Result<(), Stop>
         requires change { IsSoundChange change.now basis.now.sheet.now.entries }
         requires feeder { 1 ≤ basis.now.feeder }
@@ -190,7 +195,7 @@ impl Posting {
         was: Option<Run>,
         now: Option<Run>,
         basis: &Basis<'_>,
-        change: &Change,
+        change: &SheetChange,
     ) -> Result<(), Stop>
         requires change { IsSoundChange change.now basis.now.sheet.now.entries }
         requires feeder { 1 ≤ basis.now.feeder }
@@ -214,7 +219,7 @@ impl Posting {
         run: Run,
         part: Option<Run>,
         basis: &Basis<'_>,
-        change: &Change,
+        change: &SheetChange,
     ) -> Result<(), Stop>
         requires change { IsSoundChange change.now basis.now.sheet.now.entries }
         requires feeder { 1 ≤ basis.now.feeder }
@@ -242,7 +247,7 @@ impl Posting {
         &mut self,
         part: Option<Run>,
         basis: &Basis<'_>,
-        change: &Change,
+        change: &SheetChange,
     ) -> Result<(), Stop>
         requires change { IsSoundChange change.now basis.now.sheet.now.entries }
         requires feeder { 1 ≤ basis.now.feeder }
@@ -262,7 +267,12 @@ impl Posting {
     /// Moves the amounts of the one outage interval of a section whose cause changes with the
     /// switching log, if there is one. The error is a failed allocation; rows may have been added
     /// before it.
-    pub fn relabel(&mut self, runs: &[Run], basis: &Basis<'_>, change: &Change) -> Result<(), Stop>
+    pub fn relabel(
+        &mut self,
+        runs: &[Run],
+        basis: &Basis<'_>,
+        change: &SheetChange,
+    ) -> Result<(), Stop>
         requires change { IsSoundChange change.now basis.now.sheet.now.entries }
         requires feeder { 1 ≤ basis.now.feeder }
         requires within { LieInPeriod basis.now runs.now }

@@ -5,7 +5,7 @@ ghost use Rattle.ob_base.specs.Stop.{out_of_memory};
 ghost use Rattle.ob_sheet.specs.declared.Entry.{Entry as AnEntry};
 ghost use Rattle.ob_sheet.specs.Order.{cause_of as cause_under};
 ghost use Rattle.ob_sheet.specs.Sheet.{AreNumbered};
-ghost use Rattle.ob_sweep.specs.Changed.{changed, Applies};
+ghost use Rattle.ob_sweep.specs.SheetChanges.{with_change, CanChange};
 ghost use Rattle.ob_post.specs.CauseLaws.{cause_with as cause_of_run_with};
 ghost use Rattle.ob_post.specs.SectionAmounts.{run_cause};
 ghost use Rattle.ob_post.specs.Causes.{BeginAtCutters, StayBut};
@@ -13,7 +13,7 @@ ghost use Rattle.ob_post.specs.Causes.{BeginAtCutters, StayBut};
 use crate::laws::cause_laws;
 use ob_base::Stop;
 use ob_sheet::{Entry, Sheet};
-use ob_sweep::{Change, Run};
+use ob_sweep::{Run, SheetChange};
 use std::alloc::Global;
 
 /// The cause of an outage interval under a switching log; 0 if no entry cut the section off, for
@@ -28,35 +28,32 @@ pub fn cause_before(sheet: &Sheet, run: &Run) -> u8
 }
 
 /// The cause of an outage interval after a change.
-pub fn cause_after(sheet: &Sheet, change: &Change, run: &Run) -> u8
-    requires applies { Applies change.now sheet.now.entries }
+pub fn cause_after(sheet: &Sheet, change: &SheetChange, run: &Run) -> u8
+    requires applies { CanChange change.now sheet.now.entries }
     requires numbered { AreNumbered sheet.now.entries }
-    ensures { result ≡ run_cause (changed change.now sheet.now.entries) run.now }
+    ensures { result ≡ run_cause (with_change change.now sheet.now.entries) run.now }
 {
     cause_laws();
     match *change {
-        Change::Entered(entry) => cause_with(sheet, &entry, run),
-        Change::Corrected { new, .. } => cause_with(sheet, &new, run),
-        Change::Withdrawn(_) => cause_before(sheet, run),
-        Change::Bus | Change::Section { .. } | Change::Joined { .. } | Change::Lived { .. } => {
-            cause_before(sheet, run)
-        }
+        SheetChange::Entered(entry) => cause_with(sheet, &entry, run),
+        SheetChange::Corrected { new, .. } => cause_with(sheet, &new, run),
+        SheetChange::Withdrawn(_) => cause_before(sheet, run),
     }
 }
 
 /// The place of the only outage interval whose cause may differ after a change: the interval of a
 /// corrected entry begins at the entry's second.
-pub fn place_recaused(runs: &[Run], change: &Change) -> Option<usize>
+pub fn place_recaused(runs: &[Run], change: &SheetChange) -> Option<usize>
     requires some { All (λ r. r.since < r.until) runs.now }
     requires rising { AllPairs (λ r s. r.until < s.since) runs.now }
     ensures within { IfSome result (λ place. place < length runs.now) }
-    ensures others { (entries : List AnEntry) → Applies change.now entries → AreNumbered entries
-        → BeginAtCutters entries runs.now → StayBut result entries (changed change.now entries)
+    ensures others { (entries : List AnEntry) → CanChange change.now entries → AreNumbered entries
+        → BeginAtCutters entries runs.now → StayBut result entries (with_change change.now entries)
         runs.now }
 {
     cause_laws();
     match change {
-        Change::Corrected { old, .. } => runs
+        SheetChange::Corrected { old, .. } => runs
             .binary_search_by_key(&old.second, |run| run.since)
             .ok(),
         _ => None,
@@ -80,13 +77,13 @@ pub fn causes_before(alloc: Global, sheet: &Sheet, runs: &[Run]) -> Result<Vec<u
 pub fn causes_after(
     alloc: Global,
     sheet: &Sheet,
-    change: &Change,
+    change: &SheetChange,
     runs: &[Run],
 ) -> Result<Vec<u8>, Stop>
-    requires applies { Applies change.now sheet.now.entries }
+    requires applies { CanChange change.now sheet.now.entries }
     requires numbered { AreNumbered sheet.now.entries }
     ensures causes { IfOk result (λ causes. causes.items
-        ≡ map (run_cause (changed change.now sheet.now.entries)) runs.now) }
+        ≡ map (run_cause (with_change change.now sheet.now.entries)) runs.now) }
     ensures err { IfErr result (λ stop. stop ≡ out_of_memory) }
 {
     let mut causes = Vec::with_capacity(alloc, runs.len())?;

@@ -8,9 +8,6 @@ use Rattle.ob_sheet.specs.Revisions.{change_entry, withdrawn}
 use Rattle.ob_sheet.specs.Sheet.{AreNumbered}
 use Rattle.ob_sheet.proofs.Revising.{changed_found}
 use Rattle.ob_net.specs.Network.{Network}
-use Rattle.ob_sweep.specs.Changed.{net_before, of_sheet, IsAfter}
-use Rattle.ob_sweep.specs.declared.change.Change.{Change}
-use Rattle.ob_sweep.specs.declared.change.Change.TheVariants.{Entered, Corrected, Withdrawn, Bus, Section, Joined, Lived}
 use Rattle.ob_time.specs.Calendar.{first_second_of, end_second_of}
 use Rattle.ob_state.specs.declared.effect.Effect.{Effect}
 use Rattle.ob_state.specs.State.{BookState}
@@ -72,22 +69,3 @@ withdrawn_there b old new numbered h =
 -- the effect on other entries
 pub effect_entries : (b : BookState) (was now : List Entry) (e : Effect) → was ≡ now → IsEffect b (with_entries b was) e → IsEffect b (record (with_entries b now) { accepted = b.accepted + 1 }) e
 effect_entries b was now e same h = effect_next b (with_entries b now) (b.accepted + 1) e (subst (λ es. IsEffect b (with_entries b es) e) same h)
-
--- a change of the sheet leaves the network
-pub same_network : (change : Change) (net : Network) → IsSome (of_sheet change) → net_before change net ≡ net
-same_network (Entered e) net h = refl
-same_network (Corrected old new) net h = refl
-same_network (Withdrawn e) net h = refl
-same_network Bus net h = cc
-same_network (Section feeder) net h = cc
-same_network (Joined device life) net h = cc
-same_network (Lived device old new) net h = cc
-
-pub any_network : (change : Change) (net : Network) → IsSome (of_sheet change) → IsAfter change net
-any_network (Entered e) net h = tt
-any_network (Corrected old new) net h = tt
-any_network (Withdrawn e) net h = tt
-any_network Bus net h = cc
-any_network (Section feeder) net h = cc
-any_network (Joined device life) net h = cc
-any_network (Lived device old new) net h = cc

@@ -11,7 +11,8 @@ use Rattle.ob_sheet.proofs.Revising.{changed_found}
 use Rattle.ob_cust.specs.declared.Customer.{Customer as ACustomer}
 use Rattle.ob_cust.specs.Roll.{ends_too_early, revised, with_service}
 use Rattle.ob_sweep.specs.declared.change.Change.{Change}
-use Rattle.ob_sweep.specs.declared.change.Change.TheVariants.{Corrected as A-corrected, Withdrawn as A-withdrawn}
+use Rattle.ob_sweep.specs.declared.change.Change.TheVariants.{Sheet}
+use Rattle.ob_sweep.specs.declared.change.SheetChange.TheVariants.{Corrected as A-corrected, Withdrawn as A-withdrawn}
 use Rattle.ob_time.specs.Calendar.{Calendar}
 use Rattle.ob_sweep.specs.SheetChanges.{IsKeptOn}
 use Rattle.ob_command.specs.Commands.{IsService}
@@ -67,14 +68,14 @@ resolves_correct b number revision o was numbered e kept h =
     let f = corrected o.act o.second o.cause o.crew in
     resolved_as b (Correct number revision o) (Corrected was (f was)) (record { old = kept_on b.entries number was e kept; new = refl; of = h })
     (replaced_as b number f was numbered e)
-    (sym (ap (option_map (λ (old : Entry). A-corrected old (f old))) e))
+    (sym (ap (option_map (λ (old : Entry). Sheet (A-corrected old (f old)))) e))
 
 pub resolves_withdraw : (b : BookState) (number revision : ℕ) (was : Entry) → AreNumbered b.entries → entry_of b.entries number ≡ Some was → was.kept ≡ true
     → Resolves b (Withdraw number revision) (Withdrawn was (withdrawn was))
 resolves_withdraw b number revision was numbered e kept =
     resolved_as b (Withdraw number revision) (Withdrawn was (withdrawn was)) (record { old = kept_on b.entries number was e kept; new = refl })
     (replaced_as b number withdrawn was numbered e)
-    (sym (ap (option_map (λ (old : Entry). A-withdrawn old)) e))
+    (sym (ap (option_map (λ (old : Entry). Sheet (A-withdrawn old))) e))
 
 -- what a command comes to costs as many searches as the command may
 pub same_searches : (bound : Network → List Entry → Calendar → Change → ℕ) (b : BookState) (command : Command) (r : Resolved) → Resolves b command r → searches_by bound b r ≡ most_searches bound b command

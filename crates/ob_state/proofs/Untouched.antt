@@ -11,12 +11,13 @@ use Rattle.ob_base.specs.Seconds.{intervals}
 use Rattle.ob_sheet.specs.declared.Entry.{Entry}
 use Rattle.ob_sheet.specs.Order.{greatest, is_before, later}
 use Rattle.ob_sheet.specs.Sheet.{AreNumbered}
-use Rattle.ob_sweep.specs.Changed.{changed, Applies}
+use Rattle.ob_sweep.specs.SheetChanges.{with_change, CanChange}
 use Rattle.ob_sweep.specs.Cutters.{cuts_off, cutter_at}
 use Rattle.ob_sweep.specs.Deltas.{new_runs, sections_of, IsDelta}
 use Rattle.ob_sweep.specs.Runs.{as_run, history}
 use Rattle.ob_sweep.specs.declared.Run.{Run}
-use Rattle.ob_sweep.specs.declared.change.Change.{Change}
+use Rattle.ob_sweep.specs.declared.change.Change.TheVariants.{Sheet}
+use Rattle.ob_sweep.specs.declared.change.SheetChange.{SheetChange}
 use Rattle.ob_time.specs.Calendar.{day_count, days_of, end_second_of, first_second_of}
 use Rattle.ob_post.specs.CauseLaws.{EnteredCause, ChangedCause, SameCause}
 use Rattle.ob_post.specs.SectionAmounts.{run_cause}
@@ -56,11 +57,11 @@ cutter_stands net entries v s numbered =
     (greatest_has (λ e. e.«no» ≤ length entries) (filter (cuts_off net entries v s) entries) (All-filter (cuts_off net entries v s) (λ (e : Entry). e.«no» ≤ length entries) entries few))
 
 -- ---- causes stay
-causes_stay : (change : Change) (b : BookState) (v : ℕ) → EnteredCause → ChangedCause → SameCause → Applies change b.entries → AreNumbered b.entries → KeepsCause change
-    → All (λ r. run_cause (changed change b.entries) r ≡ run_cause b.entries r) (runs_in b v)
+causes_stay : (change : SheetChange) (b : BookState) (v : ℕ) → EnteredCause → ChangedCause → SameCause → CanChange change b.entries → AreNumbered b.entries → KeepsCause (Sheet change)
+    → All (λ r. run_cause (with_change change b.entries) r ≡ run_cause b.entries r) (runs_in b v)
 causes_stay change b v by_new by_change same ok numbered keeps =
     let h = history b.network b.entries v in
-    All-map (λ (r : Run). run_cause (changed change b.entries) r ≡ run_cause b.entries r) (as_run v h) (intervals h.deenergized (first_second_of b.period) (end_second_of b.period))
+    All-map (λ (r : Run). run_cause (with_change change b.entries) r ≡ run_cause b.entries r) (as_run v h) (intervals h.deenergized (first_second_of b.period) (end_second_of b.period))
     (λ k d l.
     let i : Interval = get_or (intervals h.deenergized (first_second_of b.period) (end_second_of b.period)) k d in
     cause_stays change b.entries (as_run v h i) by_new by_change same ok numbered keeps (cutter_stands b.network b.entries v i.since numbered))
@@ -75,12 +76,12 @@ node_at b entries v (Some f) dim key law h runs causes =
     ∙ sym (law b.entries entries b.customers (days_of b.period) f (runs_in b v) dim key causes)
     ∙ sym (section_amount (with_entries b entries) v f (runs_in b v) h (sym (runs f refl)) dim key)
 
-pub node_stays : (change : Change) (b : BookState) (lists : List (List Run)) (delta : List (ℕ × List Run)) (v : ℕ) (dim : Dim) (key : ℕ)
-    → SameByCause → EnteredCause → ChangedCause → SameCause → Applies change b.entries → AreNumbered b.entries → KeepsCause change
-    → AreRunsOf b lists → IsDelta b.network delta lists (runs_in (with_entries b (changed change b.entries))) → (Contains (sections_of delta) v → ⊥)
-    → amount_of_node b v dim key ≡ amount_of_node (with_entries b (changed change b.entries)) v dim key
+pub node_stays : (change : SheetChange) (b : BookState) (lists : List (List Run)) (delta : List (ℕ × List Run)) (v : ℕ) (dim : Dim) (key : ℕ)
+    → SameByCause → EnteredCause → ChangedCause → SameCause → CanChange change b.entries → AreNumbered b.entries → KeepsCause (Sheet change)
+    → AreRunsOf b lists → IsDelta b.network delta lists (runs_in (with_entries b (with_change change b.entries))) → (Contains (sections_of delta) v → ⊥)
+    → amount_of_node b v dim key ≡ amount_of_node (with_entries b (with_change change b.entries)) v dim key
 node_stays change b lists delta v dim key law by_new by_change same ok numbered keeps are is apart =
-    node_at b (changed change b.entries) v (home_feeder b.network v) dim key law refl
+    node_at b (with_change change b.entries) v (home_feeder b.network v) dim key law refl
     (λ f at. let s = is_section (home_feeder b.network v) f at in is.others v s (untouched delta v apart) ∙ are.defined v s)
     (causes_stay change b v by_new by_change same ok numbered keeps)
 
@@ -125,14 +126,14 @@ over_touched f g (t ∷ ts) a (suc n) rising within same =
     ]
 
 -- what is posted of the touched nodes leads from all amounts to all
-pub touched_balance : (p : Posting) (change : Change) (b : BookState) (lists : List (List Run)) (delta : List (ℕ × List Run)) (ts : List ℕ)
-    → SameByCause → EnteredCause → ChangedCause → SameCause → Applies change b.entries → AreNumbered b.entries → KeepsCause change
-    → AreRunsOf b lists → IsDelta b.network delta lists (runs_in (with_entries b (changed change b.entries)))
+pub touched_balance : (p : Posting) (change : SheetChange) (b : BookState) (lists : List (List Run)) (delta : List (ℕ × List Run)) (ts : List ℕ)
+    → SameByCause → EnteredCause → ChangedCause → SameCause → CanChange change b.entries → AreNumbered b.entries → KeepsCause (Sheet change)
+    → AreRunsOf b lists → IsDelta b.network delta lists (runs_in (with_entries b (with_change change b.entries)))
     → ts ≡ sections_of delta → AllPairs (λ v w. v < w) ts → All (λ v. v < length b.network.nodes) ts
-    → Balances (day_count b.period) p (amount_of_nodes b ts) (amount_of_nodes (with_entries b (changed change b.entries)) ts)
-    → Balances (day_count b.period) p (amount_of_first b (length b.network.nodes)) (amount_of_first (with_entries b (changed change b.entries)) (length b.network.nodes))
+    → Balances (day_count b.period) p (amount_of_nodes b ts) (amount_of_nodes (with_entries b (with_change change b.entries)) ts)
+    → Balances (day_count b.period) p (amount_of_first b (length b.network.nodes)) (amount_of_first (with_entries b (with_change change b.entries)) (length b.network.nodes))
 touched_balance p change b lists delta ts law by_new by_change same ok numbered keeps are is named rising within h =
-    let c = with_entries b (changed change b.entries) in
+    let c = with_entries b (with_change change b.entries) in
     let n = length b.network.nodes in
     same_change (day_count b.period) p (amount_of_nodes b ts) (amount_of_nodes c ts) (amount_of_first b n) (amount_of_first c n)
     (λ dim key. over_touched (λ v. amount_of_node b v dim key) (λ v. amount_of_node c v dim key) ts 0 n rising

@@ -14,7 +14,8 @@ use Rattle.ob_cust.specs.declared.Customer.{Customer as ACustomer}
 use Rattle.ob_cust.specs.Roll.{connect_refusal, is_bad_service, revised, with_customer, with_service}
 use Rattle.ob_sweep.specs.SheetChanges.{IsKeptOn}
 use Rattle.ob_sweep.specs.declared.change.Change.{Change}
-use Rattle.ob_sweep.specs.declared.change.Change.TheVariants.{Entered as An-entered, Corrected as A-corrected, Withdrawn as A-withdrawn, Joined, Lived, Bus as One-bus, Section as One-section}
+use Rattle.ob_sweep.specs.declared.change.Change.TheVariants.{Sheet, Joined, Lived, Bus as One-bus, Section as One-section}
+use Rattle.ob_sweep.specs.declared.change.SheetChange.TheVariants.{Entered as An-entered, Corrected as A-corrected, Withdrawn as A-withdrawn}
 use Rattle.ob_time.specs.Calendar.{Calendar, first_second_of, end_second_of}
 use Rattle.ob_index.specs.Marks.{is_marked_day, with_mark, without_mark}
 use Rattle.ob_command.specs.Commands.{IsEnd}
@@ -57,9 +58,9 @@ change_by (Device number device) = Some (Joined number device.life)
 change_by (Life device old new) = Some (Lived device old new)
 change_by (Customer c) = None
 change_by (Service old new) = None
-change_by (Entered e) = Some (An-entered e)
-change_by (Corrected old new) = Some (A-corrected old new)
-change_by (Withdrawn old new) = Some (A-withdrawn old)
+change_by (Entered e) = Some (Sheet (An-entered e))
+change_by (Corrected old new) = Some (Sheet (A-corrected old new))
+change_by (Withdrawn old new) = Some (Sheet (A-withdrawn old))
 change_by (Marked day engineer) = None
 change_by (Unmarked day) = None
 

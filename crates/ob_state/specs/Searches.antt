@@ -9,7 +9,8 @@ use Rattle.ob_sheet.specs.Order.{entry_of}
 use Rattle.ob_sheet.specs.Revisions.{corrected}
 use Rattle.ob_sheet.specs.Sheet.{new_entry}
 use Rattle.ob_sweep.specs.declared.change.Change.{Change}
-use Rattle.ob_sweep.specs.declared.change.Change.TheVariants.{Entered, Corrected, Withdrawn, Joined, Lived, Bus as One-bus, Section as One-section}
+use Rattle.ob_sweep.specs.declared.change.Change.TheVariants.{Sheet, Joined, Lived, Bus as One-bus, Section as One-section}
+use Rattle.ob_sweep.specs.declared.change.SheetChange.TheVariants.{Entered, Corrected, Withdrawn}
 use Rattle.ob_sweep.specs.Searches.{sweep_searches}
 use Rattle.ob_time.specs.Calendar.{Calendar, first_second_of, end_second_of}
 use Rattle.ob_command.specs.declared.command.Command.{Command}
@@ -31,9 +32,9 @@ change_of b (Life device s) =
     option_and_then (λ d. option_map (λ old. Lived d old (life s.since s.until)) (life_at b.network d)) (device_of b.network device)
 change_of b (Connect customer section s) = None
 change_of b (Revise customer s) = None
-change_of b (Switch device o) = Some (Entered (new_entry b.entries (unwrap_or (device_of b.network device) 0) o.act o.second o.cause o.crew))
-change_of b (Correct entry revision o) = option_map (λ old. Corrected old (corrected o.act o.second o.cause o.crew old)) (entry_of b.entries entry)
-change_of b (Withdraw entry revision) = option_map (λ old. Withdrawn old) (entry_of b.entries entry)
+change_of b (Switch device o) = Some (Sheet (Entered (new_entry b.entries (unwrap_or (device_of b.network device) 0) o.act o.second o.cause o.crew)))
+change_of b (Correct entry revision o) = option_map (λ old. Sheet (Corrected old (corrected o.act o.second o.cause o.crew old))) (entry_of b.entries entry)
+change_of b (Withdraw entry revision) = option_map (λ old. Sheet (Withdrawn old)) (entry_of b.entries entry)
 change_of b (Mark date engineer) = None
 change_of b (Unmark date engineer) = None
 

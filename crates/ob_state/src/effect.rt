@@ -13,7 +13,7 @@ use crate::state::State;
 use crate::switching::effect_on_sheet;
 use ob_base::Stop;
 use ob_post::Moved;
-use ob_sweep::{Change, Timeline};
+use ob_sweep::{SheetChange, Timeline};
 use std::alloc::Global;
 
 /// The changes of amounts that a command makes, and the change to the outage intervals.
@@ -53,13 +53,13 @@ pub fn effect_of<T: Timeline>(
         Resolved::Customer(customer) => effect_of_connect(alloc, state, timeline, customer),
         Resolved::Service { old, new } => effect_of_revise(alloc, state, timeline, old, new),
         Resolved::Entered(entry) => {
-            effect_on_sheet(alloc, state, timeline, &Change::Entered(entry))
+            effect_on_sheet(alloc, state, timeline, &SheetChange::Entered(entry))
         }
         Resolved::Corrected { old, new } => {
-            effect_on_sheet(alloc, state, timeline, &Change::Corrected { old, new })
+            effect_on_sheet(alloc, state, timeline, &SheetChange::Corrected { old, new })
         }
         Resolved::Withdrawn { old, .. } => {
-            effect_on_sheet(alloc, state, timeline, &Change::Withdrawn(old))
+            effect_on_sheet(alloc, state, timeline, &SheetChange::Withdrawn(old))
         }
     }
 }

@@ -1,8 +1,9 @@
 //! The effect of a change of the switching log.
 ghost use Rattle.std.specs.Prelude.{◌≡◌, ◌+◌, ◌<◌, ◌≤◌, IfOk, IfErr, IsSome, IsTrue, OnOk, length};
 ghost use Rattle.ob_base.specs.Stop.{out_of_memory};
-ghost use Rattle.ob_sweep.specs.Changed.{changed, of_sheet, Applies};
+ghost use Rattle.ob_sweep.specs.SheetChanges.{with_change, CanChange};
 ghost use Rattle.ob_sweep.specs.Deltas.{new_runs, IsDelta};
+ghost use Rattle.ob_sweep.specs.declared.change.Change.TheVariants.{Sheet};
 ghost use Rattle.ob_time.specs.Calendar.{day_count};
 ghost use Rattle.ob_state.specs.Amounts.{amount, moves};
 ghost use Rattle.ob_state.specs.Retimings.{runs_in};
@@ -17,7 +18,7 @@ use crate::state::State;
 use ob_base::Stop;
 use ob_post::laws::{cause_laws, section_laws, total_laws};
 use ob_post::{Basis, Moved, Posting};
-use ob_sweep::{Change, Delta, Timeline};
+use ob_sweep::{Change, Delta, SheetChange, Timeline};
 use std::alloc::Global;
 
 /// Computes the effect of a change of the switching log. Fails only if an allocation fails.
@@ -25,21 +26,25 @@ pub fn effect_on_sheet<T: Timeline>(
     alloc: Global,
     state: &mut State,
     timeline: &T,
-    change: &Change,
+    change: &SheetChange,
 ) -> Result<Effect, Stop>
     requires runs { AreRunsOf state.old.state (T.content timeline.now) }
-    requires of_sheet { IsSome (of_sheet change.now) }
-    requires applies { Applies change.now state.old.state.entries }
+    requires applies { CanChange change.now state.old.state.entries }
     requires changed { IsBookState (with_entries state.old.state
-        (changed change.now state.old.state.entries)) }
+        (with_change change.now state.old.state.entries)) }
     ensures effect { IfOk result (IsEffect state.old.state (with_entries state.old.state
-        (changed change.now state.old.state.entries))) }
+        (with_change change.now state.old.state.entries))) }
     ensures err { IfErr result (λ stop. stop ≡ out_of_memory) }
     ensures state { state.new.state ≡ state.old.state }
     ensures searches { state.new.searches ≤ state.old.searches + T.bound state.old.state.network
-        state.old.state.entries state.old.state.period change.now }
+        state.old.state.entries state.old.state.period (Sheet change.now) }
 {
-    let delta = timeline.plan(&mut state.net, &state.sheet, &state.period, change)?;
+    let delta = timeline.plan(
+        &mut state.net,
+        &state.sheet,
+        &state.period,
+        &Change::Sheet(*change),
+    )?;
     let moves = moves_by_change(alloc, state, timeline, &delta, change)?;
     Ok(Effect {
         moves,
@@ -54,17 +59,17 @@ fn moves_by_change<T: Timeline>(
     state: &State,
     timeline: &T,
     delta: &Delta,
-    change: &Change,
+    change: &SheetChange,
 ) -> Result<Vec<Moved>, Stop>
     requires runs { AreRunsOf state.now.state (T.content timeline.now) }
-    requires applies { Applies change.now state.now.state.entries }
+    requires applies { CanChange change.now state.now.state.entries }
     requires changed { IsBookState (with_entries state.now.state
-        (changed change.now state.now.state.entries)) }
+        (with_change change.now state.now.state.entries)) }
     requires delta { IsDelta state.now.state.network delta.now (T.content timeline.now)
-        (runs_in (with_entries state.now.state (changed change.now state.now.state.entries))) }
+        (runs_in (with_entries state.now.state (with_change change.now state.now.state.entries))) }
     ensures moves { IfOk result (λ moved. moved.items
         ≡ moves state.now.state (with_entries state.now.state
-        (changed change.now state.now.state.entries))) }
+        (with_change change.now state.now.state.entries))) }
     ensures err { IfErr result (λ stop. stop ≡ out_of_memory) }
 {
     total_laws();
@@ -78,11 +83,11 @@ fn moves_by_change<T: Timeline>(
 }
 
 // Whether a correction gives its entry another cause.
-fn gives_another_cause(change: &Change) -> bool
-    ensures { ¬ IsTrue result → KeepsCause change.now }
+fn gives_another_cause(change: &SheetChange) -> bool
+    ensures { ¬ IsTrue result → KeepsCause (Sheet change.now) }
 {
     match change {
-        Change::Corrected { old, new } => new.cause != old.cause,
+        SheetChange::Corrected { old, new } => new.cause != old.cause,
         _ => false,
     }
 }
@@ -94,18 +99,18 @@ fn posted_where_touched<T: Timeline>(
     state: &State,
     timeline: &T,
     delta: &Delta,
-    change: &Change,
+    change: &SheetChange,
 ) -> Result<Posting, Stop>
     requires runs { AreRunsOf state.now.state (T.content timeline.now) }
-    requires applies { Applies change.now state.now.state.entries }
+    requires applies { CanChange change.now state.now.state.entries }
     requires changed { IsBookState (with_entries state.now.state
-        (changed change.now state.now.state.entries)) }
+        (with_change change.now state.now.state.entries)) }
     requires delta { IsDelta state.now.state.network delta.now (T.content timeline.now)
-        (runs_in (with_entries state.now.state (changed change.now state.now.state.entries))) }
-    requires cause { KeepsCause change.now }
+        (runs_in (with_entries state.now.state (with_change change.now state.now.state.entries))) }
+    requires cause { KeepsCause (Sheet change.now) }
     ensures posted { IfOk result (λ posting. Balances (day_count state.now.state.period) posting
         (amount state.now.state) (amount (with_entries state.now.state
-        (changed change.now state.now.state.entries)))) }
+        (with_change change.now state.now.state.entries)))) }
     ensures err { IfErr result (λ stop. stop ≡ out_of_memory) }
 {
     section_laws();
@@ -126,17 +131,17 @@ fn posted_everywhere<T: Timeline>(
     state: &State,
     timeline: &T,
     delta: &Delta,
-    change: &Change,
+    change: &SheetChange,
 ) -> Result<Posting, Stop>
     requires runs { AreRunsOf state.now.state (T.content timeline.now) }
-    requires applies { Applies change.now state.now.state.entries }
+    requires applies { CanChange change.now state.now.state.entries }
     requires changed { IsBookState (with_entries state.now.state
-        (changed change.now state.now.state.entries)) }
+        (with_change change.now state.now.state.entries)) }
     requires delta { IsDelta state.now.state.network delta.now (T.content timeline.now)
-        (runs_in (with_entries state.now.state (changed change.now state.now.state.entries))) }
+        (runs_in (with_entries state.now.state (with_change change.now state.now.state.entries))) }
     ensures posted { IfOk result (λ posting. Balances (day_count state.now.state.period) posting
         (amount state.now.state) (amount (with_entries state.now.state
-        (changed change.now state.now.state.entries)))) }
+        (with_change change.now state.now.state.entries)))) }
     ensures err { IfErr result (λ stop. stop ≡ out_of_memory) }
 {
     section_laws();
@@ -155,20 +160,21 @@ fn post_node<T: Timeline>(
     state: &State,
     timeline: &T,
     delta: &Delta,
-    change: &Change,
+    change: &SheetChange,
     node: u16,
 ) -> Result<(), Stop>
     requires sound { IsSoundState state.now.state }
     requires runs { AreRunsOf state.now.state (T.content timeline.now) }
-    requires applies { Applies change.now state.now.state.entries }
+    requires applies { CanChange change.now state.now.state.entries }
     requires changed { IsBookState (with_entries state.now.state
-        (changed change.now state.now.state.entries)) }
+        (with_change change.now state.now.state.entries)) }
     requires delta { IsDelta state.now.state.network delta.now (T.content timeline.now)
-        (runs_in (with_entries state.now.state (changed change.now state.now.state.entries))) }
+        (runs_in (with_entries state.now.state (with_change change.now state.now.state.entries))) }
     requires node { node < length state.now.state.network.nodes }
-    ensures posted { BalancesFirst state.now.state (changed change.now state.now.state.entries) node
-        posting.old → OnOk result (BalancesFirst state.now.state
-        (changed change.now state.now.state.entries) (node + 1) posting.new) }
+    ensures posted { BalancesFirst state.now.state
+        (with_change change.now state.now.state.entries) node posting.old
+        → OnOk result (BalancesFirst state.now.state
+        (with_change change.now state.now.state.entries) (node + 1) posting.new) }
     ensures err { IfErr result (λ stop. stop ≡ out_of_memory) }
 {
     section_laws();
@@ -194,21 +200,21 @@ fn post_touched<T: Timeline>(
     state: &State,
     timeline: &T,
     delta: &Delta,
-    change: &Change,
+    change: &SheetChange,
     node: u16,
 ) -> Result<(), Stop>
     requires sound { IsSoundState state.now.state }
     requires runs { AreRunsOf state.now.state (T.content timeline.now) }
-    requires applies { Applies change.now state.now.state.entries }
+    requires applies { CanChange change.now state.now.state.entries }
     requires changed { IsBookState (with_entries state.now.state
-        (changed change.now state.now.state.entries)) }
+        (with_change change.now state.now.state.entries)) }
     requires delta { IsDelta state.now.state.network delta.now (T.content timeline.now)
-        (runs_in (with_entries state.now.state (changed change.now state.now.state.entries))) }
+        (runs_in (with_entries state.now.state (with_change change.now state.now.state.entries))) }
     requires node { node < length state.now.state.network.nodes }
     requires touched { IsSome (new_runs delta.now node) }
     ensures posted { Posts (day_count state.now.state.period) posting.old posting.new result
         (amount_of_node state.now.state node) (amount_of_node
-        (with_entries state.now.state (changed change.now state.now.state.entries)) node) }
+        (with_entries state.now.state (with_change change.now state.now.state.entries)) node) }
     ensures err { IfErr result (λ stop. stop ≡ out_of_memory) }
 {
     section_laws();

@@ -1,20 +1,16 @@
 -- What a timeline plans for a change of the network, and what it costs.
-use Rattle.std.proofs.Common.{◌≡◌, ◌≤◌, ◌-◌, ℕ, List, [], Some, IfOk, Result, sym, ap, subst}
-use Rattle.std.proofs.lemmas.Option.{none-some, same_Some}
+use Rattle.std.proofs.Common.{◌≡◌, ◌≤◌, ℕ, List, [], Some, IfOk, Result, sym, subst}
 use Rattle.ob_base.specs.declared.life.Life.{Life}
 use Rattle.ob_base.specs.declared.stop.Stop.{Stop}
 use Rattle.ob_net.specs.Network.{Network, with_life, without_last_node}
 use Rattle.ob_sheet.specs.declared.Entry.{Entry}
-use Rattle.ob_sweep.specs.Changed.{changed, net_before, of_sheet, IsAfter, IsLastNode}
+use Rattle.ob_sweep.specs.Changed.{changed, net_before, IsAfter, IsLastNode}
 use Rattle.ob_sweep.specs.Deltas.{IsDeltaTo}
 use Rattle.ob_sweep.specs.Lives.{never}
-use Rattle.ob_sweep.specs.Searches.{sheet_searches, windowed_searches}
 use Rattle.ob_sweep.specs.Timeline.{AreRuns}
 use Rattle.ob_sweep.specs.declared.Run.{Run}
 use Rattle.ob_sweep.specs.declared.change.Change.{Change}
-use Rattle.ob_sweep.specs.declared.change.Change.TheVariants.{Entered, Corrected, Withdrawn, Bus, Section, Joined, Lived}
-use Rattle.ob_sweep.specs.declared.change.SheetChange.{SheetChange}
-use Rattle.ob_sweep.specs.declared.change.SheetChange.TheVariants.{Entered as Entry-entered, Corrected as Entry-corrected, Withdrawn as Entry-withdrawn}
+use Rattle.ob_sweep.specs.declared.change.Change.TheVariants.{Bus, Section, Joined}
 use Rattle.ob_sweep.proofs.LifePlan.{are_runs_never}
 use Rattle.ob_sweep.proofs.Still.{bus_delta}
 
@@ -52,14 +48,3 @@ pub same_plan : (net : Network) (entries after : List Entry) (first end a b : �
 same_plan net entries after first end a b lists result is from to plan =
     subst (λ es. IfOk result (λ delta. IsDeltaTo net es first end delta lists)) (sym is)
     (subst (λ t. IfOk result (λ delta. IsDeltaTo net entries t end delta lists)) from (subst (λ t. IfOk result (λ delta. IsDeltaTo net entries a t delta lists)) to plan))
-
--- a change of the sheet costs what its window does
-pub window_count : (net : Network) (entries : List Entry) (first end : ℕ) (change : Change) (of_it : SheetChange) → of_sheet change ≡ Some of_it
-    → windowed_searches net entries change first end ≡ sheet_searches net of_it entries (end - 1)
-window_count net entries first end (Entered e) of_it is = ap (λ c. sheet_searches net c entries (end - 1)) (same_Some (Entry-entered e) of_it is)
-window_count net entries first end (Corrected old new) of_it is = ap (λ c. sheet_searches net c entries (end - 1)) (same_Some (Entry-corrected old new) of_it is)
-window_count net entries first end (Withdrawn e) of_it is = ap (λ c. sheet_searches net c entries (end - 1)) (same_Some (Entry-withdrawn e) of_it is)
-window_count net entries first end Bus of_it is = absurd (none-some of_it is)
-window_count net entries first end (Section feeder) of_it is = absurd (none-some of_it is)
-window_count net entries first end (Joined device life) of_it is = absurd (none-some of_it is)
-window_count net entries first end (Lived device old new) of_it is = absurd (none-some of_it is)

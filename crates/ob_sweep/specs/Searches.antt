@@ -9,9 +9,8 @@ use Rattle.ob_sweep.specs.SamePositions.{changes_no_position}
 use Rattle.ob_sweep.specs.Turns.{turns_between}
 use Rattle.ob_sweep.specs.Windows.{window_searches}
 use Rattle.ob_sweep.specs.declared.change.Change.{Change}
-use Rattle.ob_sweep.specs.declared.change.Change.TheVariants.{Entered, Corrected, Withdrawn, Bus, Section, Joined, Lived}
+use Rattle.ob_sweep.specs.declared.change.Change.TheVariants.{Sheet, Bus, Section, Joined, Lived}
 use Rattle.ob_sweep.specs.declared.change.SheetChange.{SheetChange}
-use Rattle.ob_sweep.specs.declared.change.SheetChange.TheVariants.{Entered as Entry-entered, Corrected as Entry-corrected, Withdrawn as Entry-withdrawn}
 
 -- of a whole sweep from a up to b: one, one for each kept entry, and one for each beginning or end of a life behind a
 abbrev pub sweep_searches : Network → List Entry → ℕ → ℕ → ℕ
@@ -30,9 +29,7 @@ sheet_searches net change entries last = if changes_no_position net change entri
 
 -- of a change by its window: none for a node, else those of the change of the sheet or of the life
 abbrev pub windowed_searches : Network → List Entry → Change → ℕ → ℕ → ℕ
-windowed_searches net entries (Entered e) a b = sheet_searches net (Entry-entered e) entries (b - 1)
-windowed_searches net entries (Corrected old new) a b = sheet_searches net (Entry-corrected old new) entries (b - 1)
-windowed_searches net entries (Withdrawn e) a b = sheet_searches net (Entry-withdrawn e) entries (b - 1)
+windowed_searches net entries (Sheet change) a b = sheet_searches net change entries (b - 1)
 windowed_searches net entries Bus a b = 0
 windowed_searches net entries (Section feeder) a b = 0
 windowed_searches net entries (Joined device life) a b = life_searches net entries never life a b

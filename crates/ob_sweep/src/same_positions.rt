@@ -9,7 +9,7 @@ ghost use Rattle.ob_sweep.specs.Laws.{SamePositionsLaw};
 ghost use Rattle.ob_sweep.specs.SamePositions.{changes_no_position, is_same, repeats};
 ghost use Rattle.ob_sweep.specs.SheetChanges.{CanChange, with_change};
 
-use crate::change::SheetChange;
+use crate::SheetChange;
 use ob_base::Pos;
 use ob_net::Net;
 use ob_sheet::{Entry, Sheet};

@@ -9,7 +9,7 @@ ghost use Rattle.ob_time.specs.Calendar.{first_second_of, end_second_of};
 use ob_command::{Command, Operation};
 use ob_net::{Net, Second};
 use ob_sheet::{Entry, Sheet};
-use ob_sweep::Change;
+use ob_sweep::{Change, SheetChange};
 use ob_time::CivilDays;
 
 /// Answers the change of the switching log by a command, or None if the command changes nothing in
@@ -70,7 +70,7 @@ fn entered(
     if is_outside(period, second) {
         return None;
     }
-    Some(Change::Entered(Entry {
+    Some(Change::Sheet(SheetChange::Entered(Entry {
         no: sheet.len() as u32 + 1,
         rev: 1,
         device,
@@ -79,7 +79,7 @@ fn entered(
         cause: operation.cause.get(),
         crew: operation.crew,
         kept: true,
-    }))
+    })))
 }
 
 fn corrected(
@@ -105,7 +105,7 @@ fn corrected(
     if old.no != no || !old.kept || net.devices() <= old.device || is_outside(period, second) {
         return None;
     }
-    Some(Change::Corrected {
+    Some(Change::Sheet(SheetChange::Corrected {
         old,
         new: Entry {
             rev: old.rev.saturating_add(1),
@@ -115,7 +115,7 @@ fn corrected(
             crew: operation.crew,
             ..old
         },
-    })
+    }))
 }
 
 fn withdrawn(net: &Net, sheet: &Sheet, period: &CivilDays, no: u32) -> Option<Change>
@@ -134,5 +134,5 @@ fn withdrawn(net: &Net, sheet: &Sheet, period: &CivilDays, no: u32) -> Option<Ch
     if old.no != no || !old.kept {
         return None;
     }
-    Some(Change::Withdrawn(old))
+    Some(Change::Sheet(SheetChange::Withdrawn(old)))
 }

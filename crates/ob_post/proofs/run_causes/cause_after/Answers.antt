@@ -2,24 +2,24 @@ use Rattle.std.proofs.Common.{◌≡◌, ◌∙◌, sym, ap, List}
 use Rattle.ob_sheet.specs.declared.Entry.{Entry}
 use Rattle.ob_sheet.specs.Revisions.{withdrawn}
 use Rattle.ob_sheet.specs.Sheet.{AreNumbered}
-use Rattle.ob_sweep.specs.Changed.{changed, Applies}
+use Rattle.ob_sweep.specs.SheetChanges.{with_change, CanChange}
 use Rattle.ob_sweep.specs.declared.Run.{Run}
-use Rattle.ob_sweep.specs.declared.change.Change.TheVariants.{Entered, Corrected, Withdrawn}
+use Rattle.ob_sweep.specs.declared.change.SheetChange.TheVariants.{Entered, Corrected, Withdrawn}
 use Rattle.ob_post.specs.CauseLaws.{cause_with, EnteredCause, ChangedCause, SameCause}
 use Rattle.ob_post.specs.SectionAmounts.{run_cause}
 use Rattle.ob_post.proofs.run_causes.cause_after.Goals as goal
 
-by_entering : (entries : List Entry) (e : Entry) (r : Run) → EnteredCause → AreNumbered entries → Applies (Entered e) entries
-    → cause_with entries e.«no» e.cause r ≡ run_cause (changed (Entered e) entries) r
+by_entering : (entries : List Entry) (e : Entry) (r : Run) → EnteredCause → AreNumbered entries → CanChange (Entered e) entries
+    → cause_with entries e.«no» e.cause r ≡ run_cause (with_change (Entered e) entries) r
 by_entering entries e r law numbered ok = sym (law entries e r numbered ok.0)
 
-by_correcting : (entries : List Entry) (old new : Entry) (r : Run) → ChangedCause → Applies (Corrected old new) entries
-    → cause_with entries new.«no» new.cause r ≡ run_cause (changed (Corrected old new) entries) r
+by_correcting : (entries : List Entry) (old new : Entry) (r : Run) → ChangedCause → CanChange (Corrected old new) entries
+    → cause_with entries new.«no» new.cause r ≡ run_cause (with_change (Corrected old new) entries) r
 by_correcting entries old new r law ok =
     ap (λ n. cause_with entries n new.cause r) ok.1 ∙ sym (law entries old.«no» (λ _. new) old r (λ d e. ok.1) ok.0.on)
 
-by_withdrawing : (entries : List Entry) (e : Entry) (r : Run) → ChangedCause → SameCause → Applies (Withdrawn e) entries
-    → run_cause entries r ≡ run_cause (changed (Withdrawn e) entries) r
+by_withdrawing : (entries : List Entry) (e : Entry) (r : Run) → ChangedCause → SameCause → CanChange (Withdrawn e) entries
+    → run_cause entries r ≡ run_cause (with_change (Withdrawn e) entries) r
 by_withdrawing entries e r law same ok = sym (law entries e.«no» withdrawn e r (λ d h. h) ok.on ∙ same entries e.«no» e r ok.on)
 
 pub returns-in-Entered : goal.returns-in-Entered

@@ -1,6 +1,6 @@
 use Rattle.std.proofs.Common.{◌∙◌, sym, ap, subst}
 use Rattle.std.proofs.lemmas.Result.{IfOk-weaker}
-use Rattle.ob_sweep.specs.Changed.{changed}
+use Rattle.ob_sweep.specs.SheetChanges.{with_change}
 use Rattle.ob_time.specs.Calendar.{day_count}
 use Rattle.ob_post.specs.MoveLaws.{change_from}
 use Rattle.ob_post.specs.Moved.{moves_by}
@@ -15,7 +15,7 @@ use Rattle.ob_state.proofs.switching.moves_by_change.Goals.{then-gives_another_c
 pub moves-requires : goal.moves-requires
 moves-requires g c =
     let b = c.args.state.now.state in
-    let after = with_entries b (changed c.args.change.now b.entries) in
+    let after = with_entries b (with_change c.args.change.now b.entries) in
     let posting = c.if-gives_another_cause.posting in
     let ok : IsOfSmall (day_count b.period) posting = record {
       old = amount b;
@@ -32,7 +32,7 @@ moves-requires g c =
 pub returns-clause-moves : goal.returns-clause-moves
 returns-clause-moves g c =
     let b = c.args.state.now.state in
-    let after = with_entries b (changed c.args.change.now b.entries) in
+    let after = with_entries b (with_change c.args.change.now b.entries) in
     let posting = c.if-gives_another_cause.posting in
     let balances : Balances (day_count b.period) posting (amount b) (amount after) = elim c.if-gives_another_cause.branch as (λ _. Balances (day_count b.period) posting (amount b) (amount after)) [
       | then-gives_another_cause+in_ok-posting w ↦ subst (λ p. Balances (day_count b.period) p (amount b) (amount after)) (sym w.posting-is) w.in_ok-posting.ensures.posted

@@ -3,7 +3,7 @@ use Rattle.std.specs.List.{Contains}
 use Rattle.std.proofs.lemmas.List.Elements.{All-contains}
 use Rattle.std.proofs.lemmas.Result.{on_ok_weaker}
 use Rattle.ob_net.specs.Network.{home_feeder}
-use Rattle.ob_sweep.specs.Changed.{changed}
+use Rattle.ob_sweep.specs.SheetChanges.{with_change}
 use Rattle.ob_sweep.specs.Deltas.{new_runs}
 use Rattle.ob_time.specs.Calendar.{day_count}
 use Rattle.ob_state.specs.States.{BookValue}
@@ -23,7 +23,7 @@ returns-in_default-clause-posted g c = λ bal.
     let b = c.args.state.now.state in
     let v = c.args.node in
     let hb : home_feeder b.network v ≡ None = ap (λ (s : BookValue). home_feeder s.state.network v) (sym c.state.view_is) ∙ sym c.feeder_of.ensures ∙ c.in_default.is in
-    no_section (day_count b.period) c.args.posting.now b (with_entries b (changed c.args.change.now b.entries)) v hb hb bal
+    no_section (day_count b.period) c.args.posting.now b (with_entries b (with_change c.args.change.now b.entries)) v hb hb bal
 
 pub relabel-requires-clause-feeder : goal.relabel-requires-clause-feeder
 relabel-requires-clause-feeder g c =
@@ -49,7 +49,7 @@ post_touched-requires-clause-touched g c =
 pub returns-then-is_ok-clause-posted : goal.returns-then-is_ok-clause-posted
 returns-then-is_ok-clause-posted g c = λ bal.
     let b = c.args.state.now.state in
-    let after = with_entries b (changed c.args.change.now b.entries) in
+    let after = with_entries b (with_change c.args.change.now b.entries) in
     let v = c.args.node in
     on_ok_weaker c.post_touched.result
     (λ h. node_more (day_count b.period) c.post_touched.new.posting b after v h)
@@ -60,13 +60,13 @@ returns-clause-posted g c = λ bal.
     let b = c.args.state.now.state in
     let v = c.args.node in
     let f = c.in-Some.feeder in
-    let entries = changed c.args.change.now b.entries in
+    let entries = with_change c.args.change.now b.entries in
     let touched = c.touched.result.now in
     let hb : home_feeder b.network v ≡ Some f = ap (λ (s : BookValue). home_feeder s.state.network v) (sym c.state.view_is) ∙ sym c.feeder_of.ensures ∙ c.in-Some.is in
     let apart = isnt_among touched v c.binary_search.result c.touched.ensures.rising c.binary_search.ensures.position (sym c.is_ok.ensures.value ∙ c.if-is_ok.false) in
     let none : new_runs c.args.delta.now v ≡ None = untouched c.args.delta.now v (λ at. apart (subst (λ xs. Contains xs v) (sym c.touched.ensures.sections) at)) in
     let stays = c.requires.delta.others v (is_section (home_feeder b.network v) f hb) none in
-    let posts = subst (λ (s : BookValue). Relabels s.state s.state.entries (changed c.args.change.now s.state.entries) c.relabel.result c.args.posting.now c.relabel.new.self f c.runs_of-old.result.now) c.state.view_is (rw c.deref.ensures at c.relabel.ensures.posted) in
+    let posts = subst (λ (s : BookValue). Relabels s.state s.state.entries (with_change c.args.change.now s.state.entries) c.relabel.result c.args.posting.now c.relabel.new.self f c.runs_of-old.result.now) c.state.view_is (rw c.deref.ensures at c.relabel.ensures.posted) in
     on_ok_weaker c.relabel.result
     (λ h. changed_section c.relabel.new.self b entries (g.T.Timeline.content c.args.timeline.now) v f c.runs_of-old.result.now c.runs_of-old.result.now c.requires.runs hb c.runs_of-old.ensures.runs (c.runs_of-old.ensures.runs ∙ sym stays) h)
     (posts (amount_of_first b v) (amount_of_first (with_entries b entries) v) bal)

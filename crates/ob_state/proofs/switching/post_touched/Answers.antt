@@ -1,7 +1,7 @@
 use Rattle.std.proofs.Common.{◌≡◌, ◌∙◌, sym, ap, subst, ℕ, ◌+◌, List, Some, None}
 use Rattle.std.proofs.lemmas.Result.{on_ok_weaker}
 use Rattle.ob_net.specs.Network.{home_feeder}
-use Rattle.ob_sweep.specs.Changed.{changed}
+use Rattle.ob_sweep.specs.SheetChanges.{with_change}
 use Rattle.ob_sweep.specs.declared.Run.{Run}
 use Rattle.ob_sheet.specs.declared.Entry.{Entry}
 use Rattle.ob_time.specs.Calendar.{day_count, days_of}
@@ -24,7 +24,7 @@ returns-in_default-clause-posted g c = λ old new bal.
     let b = c.args.state.now.state in
     let v = c.args.node in
     let hb : home_feeder b.network v ≡ None = ap (λ (s : BookValue). home_feeder s.state.network v) (sym c.state.view_is) ∙ sym c.feeder_of.ensures ∙ c.in_default.is in
-    no_amounts (day_count b.period) c.args.posting.now b (with_entries b (changed c.args.change.now b.entries)) v hb hb old new bal
+    no_amounts (day_count b.period) c.args.posting.now b (with_entries b (with_change c.args.change.now b.entries)) v hb hb old new bal
 
 pub replace-requires-clause-feeder : goal.replace-requires-clause-feeder
 replace-requires-clause-feeder g c =
@@ -45,14 +45,14 @@ returns-clause-posted g c = λ old new bal.
     let b = c.args.state.now.state in
     let v = c.args.node in
     let f = c.in-Some.feeder in
-    let entries = changed c.args.change.now b.entries in
+    let entries = with_change c.args.change.now b.entries in
     let was = c.runs_of.result.now in
     let is = c.runs.result.now in
     let of : List Entry → List Run → Dim → ℕ → ℕ = λ es runs. amount_of_runs es b.customers (days_of b.period) f runs in
     let hb : home_feeder b.network v ≡ Some f = ap (λ (s : BookValue). home_feeder s.state.network v) (sym c.state.view_is) ∙ sym c.feeder_of.ensures ∙ c.in-Some.is in
     let before : was ≡ runs_in b v = c.runs_of.ensures.runs ∙ c.requires.runs.defined v (is_section (home_feeder b.network v) f hb) in
     let after : is ≡ runs_in (with_entries b entries) v = (c.requires.delta.named v is c.runs.ensures.runs).0 in
-    let replaces = subst (λ (s : BookValue). Replaces s.state s.state.entries (changed c.args.change.now s.state.entries) c.replace.result c.args.posting.now c.replace.new.self f was is) c.state.view_is (rw c.deref.ensures at c.replace.ensures.posted) in
+    let replaces = subst (λ (s : BookValue). Replaces s.state s.state.entries (with_change c.args.change.now s.state.entries) c.replace.result c.args.posting.now c.replace.new.self f was is) c.state.view_is (rw c.deref.ensures at c.replace.ensures.posted) in
     on_ok_weaker c.replace.result
     (λ h. balances_as (day_count b.period) c.replace.new.self (together old (of b.entries was)) (together new (of entries is)) (together old (amount_of_node b v)) (together new (amount_of_node (with_entries b entries) v))
     (λ dim key. ap (λ n. old dim key + n) (section_amount b v f was hb before dim key))

@@ -1,6 +1,6 @@
 use Rattle.std.proofs.Common.{refl, subst, ℕ, ◌+◌, length, take, get_or}
 use Rattle.std.proofs.lemmas.List.{take_all}
-use Rattle.ob_sweep.specs.Changed.{changed}
+use Rattle.ob_sweep.specs.SheetChanges.{with_change}
 use Rattle.ob_time.specs.Calendar.{day_count}
 use Rattle.ob_state.specs.Retimings.{runs_in}
 use Rattle.ob_post.specs.Balances.{Balances, together}
@@ -16,7 +16,7 @@ loop-node-init g c = c.new-posting.ensures (day_count c.args.state.now.state.per
 pub post_touched-requires-clause-node : goal.post_touched-requires-clause-node
 post_touched-requires-clause-node g c =
     let b = c.args.state.now.state in
-    touched_within b.network c.args.delta.now (g.T.Timeline.content c.args.timeline.now) (runs_in (with_entries b (changed c.args.change.now b.entries))) c.touched-touched.result.now c.requires.delta c.touched-touched.ensures.named
+    touched_within b.network c.args.delta.now (g.T.Timeline.content c.args.timeline.now) (runs_in (with_entries b (with_change c.args.change.now b.entries))) c.touched-touched.result.now c.requires.delta c.touched-touched.ensures.named
     c.loop-node.node-index 0 c.loop-node-test.true
 
 pub post_touched-requires-clause-touched : goal.post_touched-requires-clause-touched
@@ -25,7 +25,7 @@ post_touched-requires-clause-touched g c = c.touched-touched.ensures.named c.loo
 pub loop-node-preserved : goal.loop-node-preserved
 loop-node-preserved g c =
     let b = c.args.state.now.state in
-    let after = with_entries b (changed c.args.change.now b.entries) in
+    let after = with_entries b (with_change c.args.change.now b.entries) in
     let ts = c.touched-touched.result.now in
     let i = c.loop-node.node-index in
     let v : ℕ = get_or ts i 0 in
@@ -39,7 +39,7 @@ pub returns-clause-posted : goal.returns-clause-posted
 returns-clause-posted g c =
     let b = c.args.state.now.state in
     let change = c.args.change.now in
-    let entries = changed change b.entries in
+    let entries = with_change change b.entries in
     let after = with_entries b entries in
     let ts = c.touched-touched.result.now in
     let posting = c.loop-node.posting in

@@ -1,5 +1,5 @@
 use Rattle.std.proofs.Common.{take}
-use Rattle.ob_sweep.specs.Changed.{changed}
+use Rattle.ob_sweep.specs.SheetChanges.{with_change}
 use Rattle.ob_time.specs.Calendar.{day_count}
 use Rattle.ob_post.specs.Balances.{Balances}
 use Rattle.ob_state.specs.Effects.{amount_of_nodes, with_entries}
@@ -8,4 +8,4 @@ use Rattle.ob_state.proofs.switching.posted_where_touched.Given as goal
 abbrev pub invariant-loop-node : goal.invariant-loop-node
 invariant-loop-node g l =
     Balances (day_count l.state.state.period) l.posting (amount_of_nodes l.state.state (take l.node-index l.touched))
-    (amount_of_nodes (with_entries l.state.state (changed l.change l.state.state.entries)) (take l.node-index l.touched))
+    (amount_of_nodes (with_entries l.state.state (with_change l.change l.state.state.entries)) (take l.node-index l.touched))

@@ -1,6 +1,6 @@
 use Rattle.std.proofs.Common.{◌+◌, ◌∷◌, [], ap, refl, ℕ}
 use Rattle.std.proofs.lemmas.Result.{on_ok_weaker}
-use Rattle.ob_sweep.specs.Changed.{changed}
+use Rattle.ob_sweep.specs.SheetChanges.{with_change}
 use Rattle.ob_time.specs.Calendar.{day_count, days_of}
 use Rattle.ob_post.specs.SectionAmounts.{amount_of_runs}
 use Rattle.ob_post.specs.Balances.{together}
@@ -11,7 +11,7 @@ use Rattle.ob_post.proofs.posting.Posting.give_part.Goals as goal
 
 pub returns-in-Some-clause-given : goal.returns-in-Some-clause-given
 returns-in-Some-clause-given c = λ old new b.
-    let now = changed c.args.change.now c.args.basis.now.sheet.now.entries in
+    let now = with_change c.args.change.now c.args.basis.now.sheet.now.entries in
     let roll = c.args.basis.now.roll.now.customers in
     let days = days_of c.args.basis.now.period.now in
     let f = c.args.basis.now.feeder in

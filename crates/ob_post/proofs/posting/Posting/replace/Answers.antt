@@ -4,7 +4,7 @@ use Rattle.std.specs.List.{AllPairs}
 use Rattle.std.specs.Option.{option_map, IfSome}
 use Rattle.ob_sheet.specs.declared.Entry.{Entry}
 use Rattle.ob_sheet.specs.Order.{entry_of}
-use Rattle.ob_sweep.specs.Changed.{changed}
+use Rattle.ob_sweep.specs.SheetChanges.{with_change}
 use Rattle.ob_sweep.specs.declared.Run.{Run}
 use Rattle.ob_time.specs.Calendar.{day_count, days_of, first_second_of, end_second_of}
 use Rattle.ob_post.specs.SectionAmounts.{amount_of_runs, LieWithin}
@@ -59,7 +59,7 @@ relabel-requires-2-clause-cut c =
 pub returns-clause-posted : goal.returns-clause-posted
 returns-clause-posted c = λ old new b.
     let was = c.args.basis.now.sheet.now.entries in
-    let now = changed c.args.change.now was in
+    let now = with_change c.args.change.now was in
     let roll = c.args.basis.now.roll.now.customers in
     let days = days_of c.args.basis.now.period.now in
     let f = c.args.basis.now.feeder in

@@ -1,6 +1,6 @@
 use Rattle.std.proofs.Common.{◌+◌, ◌∷◌, [], ap, refl, sym, ℕ, Some}
 use Rattle.std.proofs.lemmas.Result.{on_ok_weaker}
-use Rattle.ob_sweep.specs.Changed.{changed}
+use Rattle.ob_sweep.specs.SheetChanges.{with_change}
 use Rattle.ob_time.specs.Calendar.{day_count, days_of}
 use Rattle.ob_post.specs.RunAmounts.{customer_seconds_in}
 use Rattle.ob_post.specs.SectionAmounts.{amount_of_runs}
@@ -15,12 +15,12 @@ pub relabel_run-requires-clause-before : goal.relabel_run-requires-clause-before
 relabel_run-requires-clause-before c = rw c.cause_before-before.ensures (run_small c.args.basis.now.sheet.now.entries c.args.run c.requires.change.before)
 
 pub relabel_run-requires-clause-after : goal.relabel_run-requires-clause-after
-relabel_run-requires-clause-after c = rw c.cause_after-after.ensures (run_small (changed c.args.change.now c.args.basis.now.sheet.now.entries) c.in-Some.other c.requires.change.after)
+relabel_run-requires-clause-after c = rw c.cause_after-after.ensures (run_small (with_change c.args.change.now c.args.basis.now.sheet.now.entries) c.in-Some.other c.requires.change.after)
 
 pub returns-in-Some-clause-posted : goal.returns-in-Some-clause-posted
 returns-in-Some-clause-posted c = λ old new b.
     let was = c.args.basis.now.sheet.now.entries in
-    let now = changed c.args.change.now was in
+    let now = with_change c.args.change.now was in
     let roll = c.args.basis.now.roll.now.customers in
     let days = days_of c.args.basis.now.period.now in
     let f = c.args.basis.now.feeder in
@@ -39,7 +39,7 @@ returns-in-Some-clause-posted c = λ old new b.
 pub returns-clause-posted : goal.returns-clause-posted
 returns-clause-posted c = λ old new b.
     let was = c.args.basis.now.sheet.now.entries in
-    let now = changed c.args.change.now was in
+    let now = with_change c.args.change.now was in
     let roll = c.args.basis.now.roll.now.customers in
     let days = days_of c.args.basis.now.period.now in
     let f = c.args.basis.now.feeder in

@@ -1,9 +1,9 @@
-use Rattle.std.proofs.Common.{◌≡◌, ◌+◌, ◌-◌, Some, sym, ◌∙◌, ap, arith}
+use Rattle.std.proofs.Common.{◌≡◌, ◌+◌, ◌-◌, ap, arith}
 use Rattle.ob_time.specs.Calendar.{end_second_of, first_second_of}
-use Rattle.ob_sweep.specs.Changed.{changed, of_sheet}
-use Rattle.ob_sweep.specs.Searches.{sheet_searches}
-use Rattle.ob_sweep.proofs.PartMore.{bus_plan, joined_runs, same_plan, section_plan, window_count}
-use Rattle.ob_sweep.proofs.windowed.WindowedTimeline.plan.Goals.{in-Entered, in-Corrected, in-Withdrawn}
+use Rattle.ob_sweep.specs.Changed.{changed}
+use Rattle.ob_sweep.specs.Searches.{sheet_searches, windowed_searches}
+use Rattle.ob_sweep.specs.declared.change.Change.{Change}
+use Rattle.ob_sweep.proofs.PartMore.{bus_plan, joined_runs, same_plan, section_plan}
 use Rattle.ob_sweep.proofs.windowed.WindowedTimeline.plan.Goals as goal
 
 pub returns-in-Bus-clause-delta : goal.returns-in-Bus-clause-delta
@@ -46,17 +46,11 @@ returns-in-Lived-clause-delta c =
     same_plan c.args.net.now.network entries (changed c.args.change.now entries) (first_second_of period) (end_second_of period) c.first_second-first.result (c.first_second-first.result + c.length.result)
     c.args.self.now c.plan_life-in-Lived.result (ap (λ ch. changed ch entries) c.in-Lived.is) c.first_second-first.ensures.value last c.plan_life-in-Lived.ensures.delta
 
-pub returns-clause-searches : goal.returns-clause-searches
-returns-clause-searches c =
+pub returns-in-Sheet-clause-searches : goal.returns-in-Sheet-clause-searches
+returns-in-Sheet-clause-searches c =
     let net = c.args.net.now.network in
     let entries = c.args.sheet.now.entries in
     let period = c.args.period.now in
     let last : c.first_second-first.result + c.length.result - 1 ≡ end_second_of period - 1 = omega (arith, c.first_second-first.ensures.value, c.length.ensures.value) in
-    let of_it : of_sheet c.args.change.now ≡ Some c.match-change.change =
-    elim c.match-change.branch [
-      | in-Entered w ↦ ap of_sheet w.in-Entered.is ∙ ap Some (sym w.change-is)
-      | in-Corrected w ↦ ap of_sheet w.in-Corrected.is ∙ ap Some (sym w.change-is)
-      | in-Withdrawn w ↦ ap of_sheet w.in-Withdrawn.is ∙ ap Some (sym w.change-is)
-    ] in
-    let count = window_count net entries (first_second_of period) (end_second_of period) c.args.change.now c.match-change.change of_it in
-    omega (arith, c.plan_between.ensures.searches, ap (sheet_searches net c.match-change.change entries) last, count)
+    let count = ap (λ (change : Change). windowed_searches net entries change (first_second_of period) (end_second_of period)) c.in-Sheet.is in
+    omega (arith, c.plan_between.ensures.searches, ap (sheet_searches net c.in-Sheet.one entries) last, count)
