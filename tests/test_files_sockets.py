@@ -284,6 +284,17 @@ class StandardStreams(OneBook):
             self.assertEqual(program.communicate(timeout=PATIENCE), (b"W 9000\n", b""))
         self.assertEqual((program.returncode, [*self.here.iterdir()]), (0, []))
 
+    def test_not_done(self) -> None:
+        """Words that name no job end with status 64 and a reason; a text that `total` refuses with 2 and its line."""
+        for words in ([], ["tables"], ["init", "--days", "1"], ["indices", "--by", "year"]):
+            with self.subTest(words):
+                done = subprocess.run([PROGRAM, *words], cwd=self.here, capture_output=True, text=True, check=False)
+                self.assertEqual((done.stdout, done.returncode), ("", 64))
+                self.assertNotEqual(done.stderr, "")
+        text = (ROOT / "examples/first-run/first-run.csv").read_text().replace("bus,A1,BUS-A", "bus,A1,")
+        done = subprocess.run([PROGRAM, "total"], input=text, capture_output=True, text=True, check=False)
+        self.assertEqual((done.stdout, done.stderr, done.returncode), ("", "refused 1 BadField 3 row 2\n", 2))
+
     def test_terminal(self) -> None:
         """On a terminal the one line of progress is cleared at the end, and standard output is the same."""
         self.make()
