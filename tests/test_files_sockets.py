@@ -286,7 +286,8 @@ class StandardStreams(OneBook):
 
     def test_not_done(self) -> None:
         """Words that name no job end with status 64 and a reason; a text that `total` refuses with 2 and its line."""
-        for words in ([], ["tables"], ["init", "--days", "1"], ["indices", "--by", "year"]):
+        wrong: list[list[str]] = [[], ["tables"], ["init", "--days", "1"], ["indices", "--by", "year"]]
+        for words in wrong:
             with self.subTest(words):
                 done = subprocess.run([PROGRAM, *words], cwd=self.here, capture_output=True, text=True, check=False)
                 self.assertEqual((done.stdout, done.returncode), ("", 64))
