@@ -92,6 +92,7 @@ class Browser:
             base = "/".join(url.split("/")[:3])
             self.driver.get(f"{base}/static/icon.svg")
             self.driver.add_cookie({"name": "screen_name", "value": name, "path": "/"})
+            self.driver.execute_script("sessionStorage.clear()")  # as in a new tab
         self.driver.get_log("browser")
         self.driver.get(url)
         self.ready()

@@ -236,6 +236,80 @@ class Outages(Case):
         found = self.live.call("/api/outages/2")[1]
         self.assertEqual((found["outage"], [row["no"] for row in found["entries"]]), ("T_9", [1, 2]))
 
+    def test_a_form_that_is_left_comes_back(self) -> None:
+        """By Back, by a link and by a reload it has what was typed; in its own tab and at its own address alone."""
+        page, shown = self.one, {"Cause": "2", "Crew": "NORTH", "Ticket": "2026-18", "Remark": "A tree."}
+        steps = (
+            "return [...document.querySelectorAll('.step')].slice(0, 2).map((each) =>"
+            "  [...each.querySelectorAll('input, select')].map((one) => one.value))"
+        )
+
+        def look() -> None:
+            page.ready()
+            self.forecast(page, 2)
+            found = page.driver.execute_script(steps)
+            self.assertEqual(
+                [[device, position] for device, _, position in found], [["cb-1", "close"], ["lbs-11", "open"]]
+            )
+            for (_, second, _), (_, minutes_ago) in zip(found, STEPS):
+                self.assertIn(self.clock(minutes_ago), second.replace(":", ""))
+            self.assertEqual({name: page.field(name).get_attribute("value") for name in shown}, shown)
+
+        page.open(f"{self.url}/enter")
+        for device, minutes_ago in list(STEPS)[:2]:
+            self.press(page, device, Keys.TAB, self.clock(minutes_ago), Keys.TAB, Keys.TAB)
+        page.fill("Switched to", "close")  # of the first step, by hand
+        for name, typed in shown.items():
+            page.fill(name, typed)
+        look()
+        page.driver.get(f"{self.url}/static/icon.svg")
+        page.driver.back()
+        look()
+        page.tap_on("Network")
+        page.wait(lambda: page.text("h1") == "Network", "another page")
+        page.ready()
+        page.tap_on("New switching")
+        page.wait(lambda: page.all(".restored"), "what was typed")
+        page.driver.refresh()
+        look()
+        page.driver.get(f"{self.url}/enter?device=CB-2")
+        page.ready()
+        self.assertEqual((page.all(".restored"), page.field("Ticket").get_attribute("value")), ([], ""))
+        page.open(f"{self.url}/enter")  # in a new tab
+        self.assertEqual((page.all(".restored"), page.field("Ticket").get_attribute("value")), ([], ""))
+
+    def test_forms_that_come_back_until_they_are_sent(self) -> None:
+        """A correction, a change of the network and a mark; a switching that was sent doesn't come back."""
+        page = self.one
+        page.open(f"{self.url}/enter?device=CB-1")
+        page.fill("Cause", "2")
+        page.send()
+        page.fill("Crew", "SOUTH")
+        page.driver.refresh()
+        page.ready()
+        self.assertEqual(page.field("Crew").get_attribute("value"), "SOUTH")
+        page.click(".anew-form")
+        page.wait(lambda: page.all(".sender") and not page.all(".restored"), "the form anew")
+        for route, typed in {
+            "/sheet?entry=1": {"Crew of": "WEST", "Position": "close"},
+            "/network": {"What": "life", "Device": "CB-2", "Until before": "2030-01-31 23:00:00 +01:00"},
+            "/year": {"What": "unmark", "Day": "2026-01-01"},
+        }.items():
+            page.driver.get(self.url + route)
+            page.ready()
+            page.wait(lambda: page.all(".sender"), "the form")
+            for name, words in typed.items():
+                page.fill(name, words)
+            page.driver.get(f"{self.url}/static/icon.svg")
+            page.driver.back()
+            page.ready()
+            page.wait(lambda: page.all(".restored"), "what was typed")
+            found = {name: page.field(name).get_attribute("value") for name in typed}
+            self.assertEqual(found, typed, route)
+        page.driver.get(f"{self.url}/enter?device=CB-1")
+        page.ready()
+        self.assertEqual((page.all(".restored"), page.field("Crew").get_attribute("value")), ([], "ANNA"))
+
     def test_keys_for_the_whole_page(self) -> None:
         """N and / act where nobody types, and can be turned off."""
         page = self.one
