@@ -77,9 +77,7 @@ def sending_view(state: State, sending: Sending) -> Json:
         "remark": sending.remark,
         "outcome": sending.outcome,
         "result": result_of(sending, entry),
-        "no": sending.number,
         "entry": entry,
-        "moved": sending.moved,
     }
 
 
