@@ -235,7 +235,7 @@ class LibreOffice(unittest.TestCase):
         self.assertIn("all equal", [row[4] for row in rows])
 
     def test_another_limit(self) -> None:
-        """What docs/use/FAQ.md counts by awk for three minutes."""
+        """What docs/use/FAQ.md shows for three minutes."""
         rows = {row[0] + " " + row[1]: row for row in self.calculated[next(iter(self.whole))]["recount"]}
         self.assertEqual(rows["SAIFI by that limit all"][3][:5], "2.426")
         self.assertEqual(rows["SAIDI by that limit all"][3][:7], "194.509")

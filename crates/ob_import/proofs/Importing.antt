@@ -658,6 +658,11 @@ pub cause_by : (r : Result ImportReport ImportFault) (X Y : Type 0) → (X → Y
 cause_by (Ok report) X Y f h = tt
 cause_by (Err e) X Y f h = has_cause e.fault X Y f h
 
+-- what holds of a whole text holds of an import that wasn't stopped
+pub ended_so : (r : Result ImportReport ImportFault) (Whole So : Type 0) → IfOk r (λ report. report.stopped ≡ None → Whole) → (Whole → So) → IfOk r (λ report. report.stopped ≡ None → So)
+ended_so (Ok report) Whole So ended so = λ none. so (ended none)
+ended_so (Err e) Whole So ended so = tt
+
 -- an import that wasn't stopped had the whole text, which has so many bytes at most
 pub bound_by : (r : Result ImportReport ImportFault) (old new : Option (List ℕ)) (bytes : List ℕ) (whole : Bool) (limit : ℕ) → Consumes old new bytes
     → (whole ≡ true → (is_over new ≡ true) × (length bytes ≤ limit)) → IfOk r (λ report. report.stopped ≡ None → whole ≡ true) → IfOk r (λ report. report.stopped ≡ None → IsWithin old limit)

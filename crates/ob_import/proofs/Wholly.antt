@@ -14,9 +14,11 @@ use Rattle.ob_base.specs.declared.stop.Refusal.TheVariants.{BadField}
 use Rattle.ob_base.specs.declared.stop.Stop.{Stop}
 use Rattle.ob_base.specs.declared.stop.Stop.TheVariants as stops
 use Rattle.ob_csv.specs.Rows.{Fields, rows_of}
+use Rattle.ob_stream.specs.Retrying.{TriesAll, TriesAnew, TriesOrGivesUp}
 use Rattle.ob_stream.specs.Streams.{Passes}
 use Rattle.ob_stream.specs.Watching.{HasJustFailed, watched_bytes}
 use Rattle.ob_stream.specs.declared.watched.Watched.{Watched}
+use Rattle.ob_stream.proofs.Trying.{none_tried, tried_all}
 use Rattle.ob_book.specs.Acts.{ActState}
 use Rattle.ob_store.specs.Acting.{IsActStop}
 use Rattle.ob_store.specs.Calls.{WasClean}
@@ -217,8 +219,9 @@ bound_any (Err e) P p = tt
 
 module _ {S R : Type 0} (g : Ghosts S) (remaining : R → Option (List ℕ)) where
   pub whole_of : (old new : KeeperValue S) (was is : Watched R) (bytes : List ℕ) (done : Result ImportReport ImportFault) → IsSome old.book → Consumes (watched_bytes remaining was) (watched_bytes remaining is) bytes
-      → is_over (watched_bytes remaining is) ≡ true → length bytes ≤ 268435456 → RunsWhole g old new (rows_of bytes) done → WholeOf g remaining old new was is done
-  whole_of old new was is bytes done some consumed over few runs =
+      → is_over (watched_bytes remaining is) ≡ true → length bytes ≤ 268435456 → (left : ℕ) → TriesAll 65536 left was is
+      → RunsWhole g old new (rows_of bytes) done → WholeOf g remaining old new was is done
+  whole_of old new was is bytes done some consumed over few left tries runs =
       let known = rows_known (watched_bytes remaining was) (watched_bytes remaining is) bytes consumed over in
       record {
         reopen = not_bookless old.book done ⊥ some runs.cause;
@@ -228,6 +231,7 @@ module _ {S R : Type 0} (g : Ghosts S) (remaining : R → Option (List ℕ)) whe
         cause = λ there. cause_by done ⊥ (HasJustFailed is ⊎ Passes (watched_bytes remaining was) 268435456) (λ never. absurd never) runs.cause;
         bound = bound_any done (IsWithin (watched_bytes remaining was) 268435456)
             (within_gathered (watched_bytes remaining was) (watched_bytes remaining is) bytes 268435456 consumed over few);
+        tries = (left, tried_all done tries);
         commits = (rows_of bytes, known, runs.commits);
         tells = (rows_of bytes, known, runs.tells);
       }
@@ -241,8 +245,9 @@ module _ {S R : Type 0} (g : Ghosts S) (remaining : R → Option (List ℕ)) whe
 
   -- the text was not read whole
   pub nothing_of : (k : KeeperValue S) (was is : Watched R) (fault : Fault) (done : Result ImportReport ImportFault) → IsSome k.book → HasCause fault (HasJustFailed is ⊎ Passes (watched_bytes remaining was) 268435456)
-      → fault ≢ faults.Store → done ≡ Err (record { fault = fault; added = 0; again = 0 }) → WholeOf g remaining k k was is done
-  nothing_of k was is fault done some cause other told =
+      → fault ≢ faults.Store → done ≡ Err (record { fault = fault; added = 0; again = 0 }) → (left : ℕ) → TriesOrGivesUp 65536 left was is
+      → WholeOf g remaining k k was is done
+  nothing_of k was is fault done some cause other told left tries =
       let X = HasJustFailed is ⊎ Passes (watched_bytes remaining was) 268435456 in
       let known = option_map rows_of (watched_bytes remaining was) in
       let rows : List Fields = unwrap_or known [] in
@@ -254,13 +259,14 @@ module _ {S R : Type 0} (g : Ghosts S) (remaining : R → Option (List ℕ)) whe
         clean = λ clean. clean;
         cause = λ there. why;
         bound = rw told tt;
+        tries = subst (λ (r : Result ImportReport ImportFault). TriesAnew was is r) (sym told) (left, tries);
         commits = (rows, are_any known, commits_none g k (ImportsAll rows));
         tells = (rows, are_any known, tells_none g k rows done (λ fails. other (subst IsStoreFault told fails)));
       }
 
   -- there is no book
-  pub bookless_of : (k : KeeperValue S) (was is : Watched R) (done : Result ImportReport ImportFault) → k.book ≡ None → done ≡ no_book → WholeOf g remaining k k was is done
-  bookless_of k was is done none told =
+  pub bookless_of : (k : KeeperValue S) (was : Watched R) (done : Result ImportReport ImportFault) → k.book ≡ None → done ≡ no_book → WholeOf g remaining k k was was done
+  bookless_of k was done none told =
       let known = option_map rows_of (watched_bytes remaining was) in
       let rows : List Fields = unwrap_or known [] in
       record {
@@ -270,6 +276,7 @@ module _ {S R : Type 0} (g : Ghosts S) (remaining : R → Option (List ℕ)) whe
         clean = λ clean. clean;
         cause = λ there. absurd (not_none k.book there none);
         bound = rw told tt;
+        tries = (65536, tried_all done (none_tried 65536 was));
         commits = (rows, are_any known, commits_none g k (ImportsAll rows));
         tells = (rows, are_any known, tells_none g k rows done (λ fails. reopen_no_store (subst IsStoreFault told fails)));
       }

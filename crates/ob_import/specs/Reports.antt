@@ -5,6 +5,7 @@ use Rattle.ob_base.specs.declared.stop.Fault.{Fault}
 use Rattle.ob_base.specs.declared.stop.Fault.TheVariants.{OutOfMemory, Store, Reopen, Input, Output}
 use Rattle.ob_csv.specs.Rows.{Fields, rows_of}
 use Rattle.ob_csv.specs.WholeRows.{whole_rows}
+use Rattle.ob_stream.specs.Retrying.{TriesAll, TriesOrGivesUp}
 use Rattle.ob_stream.specs.Streams.{Passes}
 use Rattle.ob_stream.specs.Watching.{HasJustFailed, watched_bytes}
 use Rattle.ob_stream.specs.declared.watched.Watched.{Watched}
@@ -41,6 +42,11 @@ HasCause Input input = input
 HasCause Store input = ⊤
 HasCause Reopen input = ⊥
 HasCause Output input = ⊥
+
+-- Interrupted reads were tried again, with 65,536 retries in all. An import that came to its end gave none up.
+abbrev pub TriesToRead : {R : Type 0} → Watched R → Watched R → Result ImportReport ImportFault → Type 0
+TriesToRead was is done =
+    (left : ℕ) × TriesOrGivesUp 65536 left was is × IfOk done (λ r. r.stopped ≡ None → TriesAll 65536 left was is)
 
 -- these are the rows, where those are known
 abbrev pub AreRows : Option (List Fields) → List Fields → Type 0
@@ -106,6 +112,8 @@ module _ {S : Type 0} (g : Ghosts S) where
     pub broken : IfHeld g old new
         (λ b. IfErr done (λ e. e.fault ≡ Input → HoldsWholeRows new b (watched_bytes remaining was) (watched_bytes remaining is) e.added e.again))
     pub bound : IfOk done (λ r. r.stopped ≡ None → IsWithin (watched_bytes remaining was) 268435456)
+    -- interrupted reads were tried again, with 65,536 retries in all
+    pub tries : TriesToRead was is done
     pub tells : TellsFaults g old new (IsStoreFault done)
 
   -- all that an import of a book promises, of rows of which these are after the header and that are the whole text or not

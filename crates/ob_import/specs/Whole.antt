@@ -9,6 +9,7 @@ use Rattle.ob_base.specs.declared.stop.Stop.TheVariants as stops
 use Rattle.ob_base.specs.declared.stop.Refusal.{Refusal}
 use Rattle.ob_base.specs.declared.stop.Refusal.TheVariants.{Full}
 use Rattle.ob_csv.specs.Rows.{Fields, rows_of}
+use Rattle.ob_stream.specs.Retrying.{TriesAnew}
 use Rattle.ob_stream.specs.Streams.{Passes}
 use Rattle.ob_stream.specs.Watching.{HasJustFailed, watched_bytes}
 use Rattle.ob_stream.specs.declared.watched.Watched.{Watched}
@@ -121,6 +122,8 @@ module _ {S : Type 0} (g : Ghosts S) where
     -- the reader failed, or it gave more bytes than a text may have
     pub cause : IsSome old.book → IfErr done (λ e. HasCause e.fault (HasJustFailed is ⊎ Passes (watched_bytes remaining was) 268435456))
     pub bound : IfOk done (λ r. r.stopped ≡ None → IsWithin (watched_bytes remaining was) 268435456)
+    -- interrupted reads were tried again, with 65,536 retries in all
+    pub tries : TriesAnew was is done
     -- a crash leaves what it could leave before, or all rows of the text
     pub commits : (rows : List Fields) × AreRows (option_map rows_of (watched_bytes remaining was)) rows × CommitsOf g (ImportsAll rows) old new
     pub tells : (rows : List Fields) × AreRows (option_map rows_of (watched_bytes remaining was)) rows × TellsWholeFaults old new rows done

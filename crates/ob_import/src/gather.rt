@@ -3,7 +3,8 @@ ghost use Rattle.std.specs.Prelude.{◌≡◌, ◌⊎◌, ◌≤◌, ◌<◌, �
 ghost use Rattle.std.specs.Io.{ReadsAtMost};
 ghost use Rattle.std.specs.Io.KnownBytes.{Consumes, IsAtEnd};
 ghost use Rattle.ob_stream.specs.Watching.{HasJustFailed, watched_bytes};
-ghost use Rattle.ob_stream.specs.Streams.{Passes};
+ghost use Rattle.ob_stream.specs.Retrying.{TriesAll, TriesOrGivesUp};
+ghost use Rattle.ob_stream.specs.Streams.{Passes, retries_left};
 ghost use Rattle.ob_import.specs.Gathering.{is_over};
 
 use ob_csv::whole_rows_end;
@@ -33,6 +34,10 @@ pub(crate) fn gather<R: Read>(
         × (length g.bytes.items ≤ limit)) }
     ensures cut { IfOk result (λ g. g.whole ≡ false
         → HasJustFailed reader.new ⊎ Passes (watched_bytes R.remaining reader.old) limit) }
+    ensures ends { IfOk result (λ g. g.whole ≡ true → TriesAll (retries_left retries.old)
+        (retries_left retries.new) reader.old reader.new) }
+    ensures tries { TriesOrGivesUp (retries_left retries.old) (retries_left retries.new) reader.old
+        reader.new }
 {
     let mut bytes = Vec::new(alloc);
     let mut chunk = [0u8; 4096];

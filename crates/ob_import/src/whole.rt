@@ -48,30 +48,44 @@ pub fn import_whole<R: Read, S: Alter, T: Timeline, P: Progress>(
     if !gathered.whole {
         return Err(nothing_added(Fault::Input));
     }
-    import_lines(alloc, &gathered.bytes, keeper, progress)
+    import_lines(alloc, gathered.bytes, keeper, progress)
 }
 
 /// Imports the rows of a text, its header included, in one transaction.
 fn import_lines<S: Alter, T: Timeline, P: Progress>(
     alloc: Global,
-    text: &[u8],
+    text: Vec<u8>,
     keeper: &mut Keeper<S, T>,
     progress: &mut P,
 ) -> Result<ImportReport, ImportFault>
     requires { IsSome keeper.old.book }
-    ensures { RunsWhole S.Store keeper.old keeper.new (rows_of text.now) result }
+    ensures { RunsWhole S.Store keeper.old keeper.new (rows_of text.items) result }
 {
-    let mut rows = RowReader::new(alloc, text);
-    let lines = match read_lines(alloc, &mut rows) {
+    // the first line is the header
+    let total = lines_of(text.as_slice()).saturating_sub(1);
+    let lines = match lines_in(alloc, text) {
         Ok(Some(lines)) => lines,
         Ok(None) => return Ok(stopped_at(0, Refusal::BadField(0))),
         Err(fault) => return Err(nothing_added(fault)),
     };
-    // the first line is the header
-    progress.begin(Work::Rows, lines_of(text).saturating_sub(1));
+    progress.begin(Work::Rows, total);
     let run = keeper.act_all(&lines, progress);
     progress.end();
     end_of(run, lines.len())
+}
+
+/// Reads the rows of a text after its header as the lines of a list, and drops the text. None if it
+/// has no header.
+fn lines_in(
+    alloc: Global,
+    text: Vec<u8>,
+) -> Result<Option<Vec<Result<(Ref, Command), Refusal>>>, Fault>
+    ensures lines { IfOk result (λ found. AreLinesOf (after_header (rows_of text.items)) (option_map (λ lines. lines.items) found)) }
+    ensures few { IfOk result (λ found. IfSome found (λ lines. length lines.items ≤ 1_000_001)) }
+    ensures faults { IfErr result (λ fault. fault ≡ Fault.OutOfMemory) }
+{
+    let mut rows = RowReader::new(alloc, text.as_slice());
+    read_lines(alloc, &mut rows)
 }
 
 /// Reads the rows after the header as the lines of a list, up to the first that says no command.

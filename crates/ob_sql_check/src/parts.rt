@@ -193,7 +193,7 @@ impl<'b, T: Timeline> Listed for Causes<'b, T> {
     fn count(&self) -> usize {
         // This call's contract states that there is a place for each code.
         let _ = self.book.accepted();
-        usize::from(CAUSES)
+        FIRST_FEEDER
     }
 
     fn has_row(&self, at: usize) -> bool {

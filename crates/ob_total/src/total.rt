@@ -2,6 +2,7 @@
 ghost use Rattle.std.specs.Prelude.{◌≡◌, ◌≢◌, ◌⊎◌, string_bytes, None, Some, Ok, true, IfOk, IfErr, OnOk};
 ghost use Rattle.std.specs.Io.KnownBytes.{Appends, Keeps};
 ghost use Rattle.ob_base.specs.Stop.{out_of_memory};
+ghost use Rattle.ob_stream.specs.Retrying.{BothTryAnew};
 ghost use Rattle.ob_stream.specs.Streams.{Passes};
 ghost use Rattle.ob_stream.specs.Watching.{HasJustFailed, watched_bytes};
 ghost use Rattle.ob_csv.specs.Rows.{TakesRow};
@@ -32,7 +33,7 @@ pub struct TotalStop {
 /// the number of customer-seconds without supply in the span; it is also returned.
 ///
 /// The text is CSV (RFC 4180) of at most `ob_csv::MOST_BYTES` bytes and `ob_csv::MOST_ROWS` rows
-/// after the header.
+/// after the header. Interrupted reads and writes are repeated, 65,536 times in all.
 ///
 /// # Errors
 ///
@@ -55,6 +56,8 @@ pub fn run_total<R: Read, W: Write>(
     ensures length { SpeaksOfText result → IsWithin (watched_bytes R.remaining reader.old) 268435456 }
     ensures cause { IfErr result (λ e. HasCause e.stop (HasJustFailed reader.new
         ⊎ Passes (watched_bytes R.remaining reader.old) 268435456) (HasJustFailed writer.new)) }
+    // interrupted reads and writes are tried again, 65,536 times in all
+    ensures tries { BothTryAnew reader.old reader.new writer.old writer.new result }
 {
     let mut retries = Retries::new();
     let text = match read_text(alloc, reader, &mut retries, MOST_BYTES) {

@@ -1,12 +1,14 @@
-use Rattle.std.proofs.Common.{◌≢◌, ◌∙◌, [], None, Some, ap, refl, rules, subst}
-use Rattle.std.specs.Prelude.{◌≡◌, ◌⊎◌, false, option_map, IfOk, IsSome}
-use Rattle.ob_stream.specs.Streams.{Passes}
+use Rattle.std.proofs.Common.{◌≢◌, ◌∙◌, [], None, Some, ap, inl, refl, rules, subst}
+use Rattle.std.specs.Prelude.{◌≡◌, ◌⊎◌, false, true, option_map, IfOk, IsSome}
+use Rattle.ob_stream.proofs.Trying.{none_tried}
+use Rattle.ob_stream.specs.Retrying.{TriesAll}
+use Rattle.ob_stream.specs.Streams.{Passes, retries_left}
 use Rattle.ob_stream.specs.Watching.{HasJustFailed, watched_bytes}
 use Rattle.ob_csv.specs.Rows.{rows_of}
 use Rattle.ob_import.specs.Imports.{after_header}
 use Rattle.ob_import.specs.Reports.{Runs}
 use Rattle.ob_store.proofs.Faults.{tells_nothing}
-use Rattle.ob_import.proofs.Importing.{bound_by, broken_gathered, cause_by, imported_gathered, leaves_nothing, memory_not_store, no_book_fault, not_bookless, not_lost, not_none}
+use Rattle.ob_import.proofs.Importing.{bound_by, broken_gathered, cause_by, ended_so, imported_gathered, leaves_nothing, memory_not_store, no_book_fault, not_bookless, not_lost, not_none}
 use Rattle.ob_import.proofs.text.import_with_progress.Goals as goal
 
 pub returns : goal.returns
@@ -34,6 +36,12 @@ returns g c =
           broken_gathered g.S.Store new b (bytes c.args.reader.now) (bytes c.gather.new.reader) it.bytes.items it.whole done
           c.in-Ok.ensures.consumed runs.cause (runs.all clean b ties);
       bound = bound_by done (bytes c.args.reader.now) (bytes c.gather.new.reader) it.bytes.items it.whole 268435456 c.in-Ok.ensures.consumed c.in-Ok.ensures.whole runs.ended;
+      tries = (
+        retries_left c.gather.new.retries,
+        rw c.new-retries.ensures at c.in-Ok.ensures.tries,
+        ended_so done (it.whole ≡ true) (TriesAll 65536 (retries_left c.gather.new.retries) c.args.reader.now c.gather.new.reader) runs.ended
+            (rw c.new-retries.ensures at c.in-Ok.ensures.ends),
+      );
       tells = c.import_rows-run.ensures.tells;
     }
 
@@ -50,6 +58,7 @@ returns-in_default g c =
       cause = λ is. tt;
       broken = λ clean b ties is e. cc;
       bound = tt;
+      tries = (retries_left c.gather.new.retries, rw c.new-retries.ensures at c.gather.ensures.tries, tt);
       tells = tells_nothing g.S.Store k k _ refl memory_not_store;
     }
 
@@ -66,5 +75,6 @@ returns-then-is_none g c =
       cause = λ is. absurd (not_none k.book is none);
       broken = λ clean b ties is. absurd (not_none k.book is none);
       bound = tt;
+      tries = (65536, inl (none_tried 65536 c.args.reader.now), tt);
       tells = tells_nothing g.S.Store k k _ refl (no_book_fault c.fault_without_book.result c.fault_without_book.ensures);
     }
