@@ -23,8 +23,8 @@ from typing import Any
 from .answers import NotPlanned, Plan, SectionChange, Supply, command_body, moves_in, plan_in, supply_in
 from .apart import Apart
 from .desk import Answer, Away, Desk, OwnDesk
-from .reader import BookError, Command, Entry, Moves, copy_of, counts_of
-from .state import Refused, State
+from .reader import BookError, Command, Moves, copy_of, counts_of
+from .state import Refused, State, said
 
 MEMORY = Path("/dev/shm")
 ROOM = 4  # times the size of the book, for what is tried
@@ -271,14 +271,8 @@ class DeskCopy(OwnDesk):
         """Corrects the entries back that were changed, and withdraws those that were made."""
         for entry, tried in zip(before.entries, after.entries):
             if tried.revision > entry.revision:
-                revision = tried.revision + self.revisions[entry.number]
-                fields = [
-                    str(self.entries[entry.number - 1]),
-                    str(revision),
-                    position_of(entry.closes),
-                    *rest_of(entry, entry.second),
-                ]
-                await self.send("correct", fields, new_reference())
+                seen = self.entries[entry.number - 1], tried.revision + self.revisions[entry.number]
+                await self.send("correct", [*map(str, seen), *said(entry)], new_reference())
                 self.revisions[entry.number] += tried.revision + 1 - entry.revision
         for number in range(self.made, made, -1):
             await self.send("withdraw", [str(number), "1"], new_reference())
@@ -288,20 +282,13 @@ def new_reference() -> str:
     return f"TRY-{secrets.token_hex(12).upper()}"
 
 
-def position_of(closes: bool) -> str:
-    return "close" if closes else "open"
-
-
-def rest_of(entry: Entry, second: int) -> list[str]:
-    return [str(second), str(entry.cause), entry.crew]
-
-
 def harmless(state: State, number: str, revision: str) -> tuple[str, list[str]]:
     """The correction with which an entry acts as if it were withdrawn."""
     entry, first = state.entries[int(number) - 1], state.period.first
     device = state.devices[entry.device]
     last = state.last_entry(device, first, entry.number)
-    return "correct", [number, revision, position_of(last.closes if last else device.is_closed), *rest_of(entry, first)]
+    as_if = replace(entry, closes=last.closes if last else device.is_closed, second=first)
+    return "correct", [number, revision, *said(as_if)]
 
 
 def refuse_withdrawn(before: State, state: State, kind: str, fields: Sequence[str]) -> None:

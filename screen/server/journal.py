@@ -27,7 +27,6 @@ class Sending:
     fields: tuple[str, ...] = ()
     outcome: str = "unanswered"  # or saved, refused
     number: int | None = None  # of the command, once it is saved
-    moved: int = 0  # customer-seconds
     remark: str = ""
     refusal: str = ""
     commands: tuple[int, int] | None = None  # the first and the last number of those that came at once
@@ -120,7 +119,6 @@ def take_answer(sending: Sending, answer: object) -> None:
         return
     if isinstance(answer.get("no"), int):
         sending.outcome, sending.number = "saved", answer["no"]
-        sending.moved = sum(move[2] for move in answer.get("moved", ()) if move[0] == "cause")
     elif sending.kind == IMPORT and "added" in answer:
         stopped = answer.get("stopped")
         sending.outcome = "refused" if stopped else "saved"

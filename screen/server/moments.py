@@ -6,8 +6,9 @@ import re
 import time
 from bisect import bisect_left
 from collections.abc import Sequence
-from dataclasses import dataclass
+from dataclasses import asdict, dataclass
 from datetime import date, datetime, timedelta
+from typing import Any
 
 from .reader import Zone
 from .state import Refused
@@ -93,6 +94,11 @@ def read_moment(zone: Zone, text: str, may_come: bool = False) -> list[Moment]:
     if not all(0 <= each <= LAST for each in found):
         raise Refused(f"{text} lies outside of what a book can hold")
     return [moment_of(zone, each) for each in found]
+
+
+def moment_view(zone: Zone, text: str) -> list[dict[str, Any]]:
+    """What a typed moment may mean, for a page."""
+    return [asdict(each) for each in read_moment(zone, text)]
 
 
 def seconds_of(zone: Zone, day: date, hour: str, minute: str, second: str | None, offset: str | None) -> list[int]:

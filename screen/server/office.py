@@ -24,6 +24,10 @@ WATCH_SECONDS = 1.0
 KEPT_UNDOS = 2_000
 KEPT_NEWS = 50
 WAITING_EVENTS = 64
+AWAY_WORDS = (
+    "The desk gave no answer, so it isn't known whether this is saved. Send it again: it goes under the same reference, "
+    "and acts once."
+)
 PLAIN = re.compile(r"0|[1-9][0-9]*|-")
 
 
@@ -176,7 +180,7 @@ class Office:
         except Away as away:
             self.journal.write(login, command["ref"], unanswered=str(away))
             self.tell_desk()
-            return 503, {"error": "away", "words": away_words(), "ref": command["ref"], "why": str(away)}
+            return 503, {"error": "away", "words": AWAY_WORDS, "ref": command["ref"], "why": str(away)}
         self.journal.write(login, command["ref"], status=answer.status, answer=body_of(answer))
         reply = answer.json()
         if answer.status != 200:
@@ -212,7 +216,7 @@ class Office:
                 await self.catch_up()
         except Away as away:
             self.journal.write(login, "", unanswered=str(away))
-            return 503, {"error": "away", "words": away_words(), "why": str(away)}
+            return 503, {"error": "away", "words": AWAY_WORDS, "why": str(away)}
         finally:
             self.is_importing = False
         commands = [known + 1, self.state.number] if self.state.number > known else None
@@ -288,13 +292,6 @@ class Office:
                 self.past_known = await self.tables.run(past_outages, state.period, *rows)
                 self.past_of = number
             return self.past_known
-
-
-def away_words() -> str:
-    return (
-        "The desk gave no answer, so it isn't known whether this is saved. Send it again: it goes under the same reference, "
-        "and acts once."
-    )
 
 
 def body_of(answer: Answer) -> Any:

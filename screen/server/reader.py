@@ -4,8 +4,8 @@ from __future__ import annotations
 
 import sqlite3
 import sys
-from collections.abc import Sequence
-from contextlib import closing
+from collections.abc import Iterator, Sequence
+from contextlib import closing, contextmanager
 from dataclasses import dataclass
 from pathlib import Path
 
@@ -74,41 +74,39 @@ def command_of(number: int, ref: str, body: str) -> Command:
     return Command(number, ref, kind, tuple(fields))
 
 
-def read_rows(path: Path) -> Rows:
+@contextmanager
+def database_of(path: Path) -> Iterator[sqlite3.Connection]:
     """A book as of its last commit, from a copy: no lock is taken, the desk isn't stopped."""
     with copy_of(path) as copy, closing(sqlite3.connect(f"{copy.as_uri()}?mode=ro", uri=True)) as database:
         try:
-            return rows_of(database)
+            database.execute("BEGIN")
+            yield database
         except sqlite3.Error as error:
             raise BookError(f"{path} is no book: {error}") from None
 
 
-def rows_of(database: sqlite3.Connection) -> Rows:
-    database.execute("BEGIN")
-    book = read_book(database)
-    customers = database.execute("SELECT id, section, since, until FROM customer ORDER BY id")
-    commands = database.execute("SELECT id, ref, body FROM cmd ORDER BY id")
-    return Rows(
-        period=book.period,
-        causes=dict(book.causes),
-        nodes=database.execute("SELECT name, kind, feeder FROM node ORDER BY id").fetchall(),
-        devices=list(book.devices),
-        entries=list(book.entries),
-        customers={number: (section, since, until) for number, section, since, until in customers},
-        marks=dict(book.marks),
-        commands=[command_of(*row) for row in commands],
-    )
+def read_rows(path: Path) -> Rows:
+    with database_of(path) as database:
+        book = read_book(database)
+        customers = database.execute("SELECT id, section, since, until FROM customer ORDER BY id")
+        commands = database.execute("SELECT id, ref, body FROM cmd ORDER BY id")
+        return Rows(
+            period=book.period,
+            causes=dict(book.causes),
+            nodes=database.execute("SELECT name, kind, feeder FROM node ORDER BY id").fetchall(),
+            devices=list(book.devices),
+            entries=list(book.entries),
+            customers={number: (section, since, until) for number, section, since, until in customers},
+            marks=dict(book.marks),
+            commands=[command_of(*row) for row in commands],
+        )
 
 
 def read_later(path: Path, known: int) -> list[tuple[Command, Moves]]:
     """The commands after a number, each with what it moved."""
-    with copy_of(path) as copy, closing(sqlite3.connect(f"{copy.as_uri()}?mode=ro", uri=True)) as database:
-        try:
-            database.execute("BEGIN")
-            rows = database.execute("SELECT id, ref, body FROM cmd WHERE id > ? ORDER BY id", (known,)).fetchall()
-            return [(command_of(*row), moves_of(database, row[0])) for row in rows]
-        except sqlite3.Error as error:
-            raise BookError(f"{path} is no book: {error}") from None
+    with database_of(path) as database:
+        rows = database.execute("SELECT id, ref, body FROM cmd WHERE id > ? ORDER BY id", (known,)).fetchall()
+        return [(command_of(*row), moves_of(database, row[0])) for row in rows]
 
 
 def moves_of(database: sqlite3.Connection, number: int) -> Moves:

@@ -6,13 +6,13 @@ from __future__ import annotations
 import re
 import time
 from collections.abc import Iterable
-from datetime import date, timedelta
+from datetime import timedelta
 from itertools import islice
 
 from .answers import Outage
 from .commands import FIELDS
 from .journal import ELSEWHERE, IMPORT, Sending
-from .moments import DAYS_BACK, LAST, day_of_word, read_moment
+from .moments import DAYS_BACK, LAST, date_of, read_moment
 from .names import name_in
 from .office import Office
 from .reader import Past
@@ -34,8 +34,7 @@ def bound_of(state: State, typed: str, is_end: bool) -> int:
     zone, typed = state.period.zone, typed.strip()
     if typed.lower() in DAYS_BACK or DAY.fullmatch(typed):
         try:
-            day = day_of_word(zone, typed) if typed.lower() in DAYS_BACK else date.fromisoformat(typed)
-            found = zone.midnight(day + timedelta(days=int(is_end)))
+            found = zone.midnight(date_of(zone, typed) + timedelta(days=int(is_end)))
         except (ValueError, OverflowError):
             raise Refused(f"{typed} is no day") from None
         if not 0 <= found <= LAST:
@@ -77,9 +76,7 @@ def sending_view(state: State, sending: Sending) -> Json:
         "remark": sending.remark,
         "outcome": sending.outcome,
         "result": result_of(sending, entry),
-        "no": sending.number,
         "entry": entry,
-        "moved": sending.moved,
     }
 
 

@@ -27,6 +27,11 @@ class NotNow(Refused):
     """What can't be told now, and may be a moment later."""
 
 
+def said(entry: Entry) -> list[str]:
+    """The fields with which an entry is told as it is: position, second, cause, crew."""
+    return ["close" if entry.closes else "open", str(entry.second), str(entry.cause), entry.crew]
+
+
 def end_of(text: str) -> int | None:
     return None if text == "-" else int(text)
 

@@ -10,15 +10,14 @@ import time
 from collections import defaultdict
 from collections.abc import Container, Iterable, Sequence
 from fractions import Fraction
-from typing import Any
 
 from .answers import Outage
 from .desk import Away
 from .office import Office
 from .reader import LONGEST_MOMENTARY, Counts, indices_of, quotient_text
 from .state import State
+from .views import Json, moment
 
-Json = dict[str, Any]
 NAMES = ("SAIFI", "SAIDI", "CAIDI", "ASAI")
 MOST_LATER = 200  # seconds to come at which something is switched
 
@@ -128,7 +127,7 @@ async def to_now_view(office: Office) -> Json:
     outages = (await office.supply(now)).outages
     shown: Json = {"open": len({row.entry for row in outages if row.until == state.period.end})}
     try:
-        shown["to_now"] = {"at": {"second": now, "text": state.period.zone.text_of(now)}, **await figures(office, now)}
+        shown["to_now"] = {"at": moment(state, now), **await figures(office, now)}
     except Away as away:
         shown |= {"to_now": None, "why": str(away)}
     return shown

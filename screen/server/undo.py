@@ -3,7 +3,7 @@
 from __future__ import annotations
 
 from .reader import Command
-from .state import State
+from .state import State, said
 
 
 def undo_of(state: State, command: Command) -> tuple[str, ...] | None:
@@ -14,10 +14,9 @@ def undo_of(state: State, command: Command) -> tuple[str, ...] | None:
         return "withdraw", str(len(state.entries) + 1), "1"
     if kind in ("correct", "withdraw"):
         entry = state.entries[int(fields[0]) - 1]
-        as_it_was = "close" if entry.closes else "open", str(entry.second), str(entry.cause), entry.crew
         if kind == "withdraw":
-            return "switch", state.devices[entry.device].name, *as_it_was
-        return "correct", str(entry.number), str(entry.revision + 1), *as_it_was
+            return "switch", state.devices[entry.device].name, *said(entry)
+        return "correct", str(entry.number), str(entry.revision + 1), *said(entry)
     if kind in ("mark", "unmark"):
         return "unmark" if kind == "mark" else "mark", *fields
     if kind == "life":

@@ -13,6 +13,7 @@ import time
 from collections.abc import Awaitable, Callable
 from dataclasses import dataclass, field
 from functools import partial
+from inspect import isawaitable
 from pathlib import Path
 from typing import Any
 from urllib.parse import urlsplit
@@ -29,6 +30,7 @@ from .office import Office
 from .reader import BookError
 from .state import NotNow, Refused
 from .to_now import to_now_view
+from .views import Json
 
 STATIC = Path(__file__).resolve().parent.parent / "static"
 PAGES = {"/": "now", "/sheet": "sheet", "/enter": "enter", "/network": "network", "/year": "year", "/shift": "handover"}
@@ -44,6 +46,7 @@ POLICY = (
     "base-uri 'none'; frame-ancestors 'none'"
 )
 Handler = Callable[[web.Request], Awaitable[web.StreamResponse]]
+Query = dict[str, str]
 
 
 @dataclass
@@ -79,8 +82,10 @@ def answer(status: int, shown: Any) -> web.Response:
     return web.Response(status=status, text=json.dumps(shown), content_type="application/json")
 
 
-def complaint(status: int, error: str, words: str) -> web.Response:
-    return answer(status, {"error": error, "words": words})
+def complaint(status: int, error: str, words: str, allow: str | None = None) -> web.Response:
+    reply = answer(status, {"error": error, "words": words})
+    reply.headers.update({"Allow": allow} if allow else {})
+    return reply
 
 
 # Who asks.
@@ -126,10 +131,7 @@ async def check(request: web.Request, handler: Handler) -> web.StreamResponse:
         refusal = refusal_of(request)
         return await handler(request) if refusal is None else refusal
     except web.HTTPException as error:
-        headers = {"Allow": error.headers["Allow"]} if "Allow" in error.headers else None
-        reply = complaint(error.status, "http", error.reason)
-        reply.headers.update(headers or {})
-        return reply
+        return complaint(error.status, "http", error.reason, error.headers.get("Allow"))
     except Refused as refused:
         return complaint(503 if isinstance(refused, NotNow) else 422, "refused here", str(refused))
     except Away as away:
@@ -146,9 +148,7 @@ def refusal_of(request: web.Request) -> web.Response | None:
     if request.headers.get("Host", "") not in hosts:
         return complaint(403, "host", "this name isn't the screen's: --host tells it another")
     if request.method not in ("GET", "HEAD", "POST"):
-        reply = complaint(405, "method", "the screen knows GET and POST")
-        reply.headers["Allow"] = "GET, HEAD, POST"
-        return reply
+        return complaint(405, "method", "the screen knows GET and POST", "GET, HEAD, POST")
     site, is_visit = request.headers.get("Sec-Fetch-Site", "none"), request.headers.get("Sec-Fetch-Mode") == "navigate"
     is_visit = is_visit and request.method == "GET" and request.path in PAGES  # by a link from elsewhere
     if site not in ("same-origin", "none") and not is_visit:
@@ -215,25 +215,26 @@ async def json_body(request: web.Request) -> dict[str, str]:
 # Pages and what they read.
 
 
-async def page(request: web.Request) -> web.StreamResponse:
-    name = PAGES[request.path]
-    data = (STATIC / f"{name}.html").read_bytes()
-    return web.Response(body=data, content_type="text/html", charset="utf-8")
+TYPES = {".html": "text/html", ".js": "text/javascript", ".css": "text/css", ".svg": "image/svg+xml"}
 
 
-TYPES = {".js": "text/javascript", ".css": "text/css", ".svg": "image/svg+xml"}
-
-
-async def static(request: web.Request) -> web.StreamResponse:
-    name = request.match_info["name"]
+def file(name: str) -> web.StreamResponse:
     place = STATIC / name
-    if not re.fullmatch(r"[a-z]+\.(js|css|svg)", name) or not place.is_file():
+    if not place.is_file():
         raise web.HTTPNotFound()
     return web.Response(body=place.read_bytes(), content_type=TYPES[place.suffix], charset="utf-8")
 
 
-async def icon(request: web.Request) -> web.StreamResponse:
-    return web.Response(body=(STATIC / "icon.svg").read_bytes(), content_type=TYPES[".svg"], charset="utf-8")
+async def page(request: web.Request) -> web.StreamResponse:
+    return file(f"{PAGES[request.path]}.html")
+
+
+async def static(request: web.Request) -> web.StreamResponse:
+    return file(request.match_info["name"])
+
+
+async def icon(_: web.Request) -> web.StreamResponse:
+    return file("icon.svg")
 
 
 async def health(request: web.Request) -> web.StreamResponse:
@@ -271,46 +272,61 @@ async def give_name(request: web.Request) -> web.StreamResponse:
     return reply
 
 
-async def book(request: web.Request) -> web.StreamResponse:
-    return answer(200, views.book_view(office_of(request).state))
+def shows(view: Callable[[Office, Query], Any]) -> Handler:
+    """A route that shows something by what is asked for."""
+
+    async def show(request: web.Request) -> web.StreamResponse:
+        found = view(office_of(request), dict(request.query))
+        return answer(200, await found if isawaitable(found) else found)
+
+    return show
 
 
-def second_within(request: web.Request) -> int:
+def second_within(office: Office, query: Query) -> int:
     """The second that is asked for: now by the server's clock where none is, brought into the period."""
-    office, typed = office_of(request), request.query.get("at", "")
-    period = office.state.period
+    typed, period = query.get("at", ""), office.state.period
     if not typed:
         return office.state.now()
     found = moments.read_moment(period.zone, typed)
-    at = found[int(request.query.get("which") == "1") % len(found)].second
+    at = found[int(query.get("which") == "1") % len(found)].second
     if not period.first <= at < period.end:
         raise Refused("the second lies outside the book's period")
     return at
 
 
-async def second(request: web.Request) -> web.StreamResponse:
+def second(office: Office, query: Query) -> Json:
     """The second that is now, or the one of the period that is nearest to it; `goes` where it is now, with the part of it that is gone."""
-    read_at = time.time()
-    state, at = office_of(request).state, second_within(request)
-    goes = state.period.first <= read_at < state.period.end
-    return answer(200, {**views.moment(state, at), "goes": goes, "gone": max(0.0, read_at - at) if goes else 0.0})
+    read_at, period = time.time(), office.state.period
+    at = second_within(office, query)
+    goes = period.first <= read_at < period.end
+    return {**views.moment(office.state, at), "goes": goes, "gone": max(0.0, read_at - at) if goes else 0.0}
 
 
-async def now(request: web.Request) -> web.StreamResponse:
-    office = office_of(request)
-    supply = await office.supply(second_within(request))
-    return answer(200, views.now_view(office.state, supply))
+async def now(office: Office, query: Query) -> Json:
+    return views.now_view(office.state, await office.supply(second_within(office, query)))
 
 
-async def news(request: web.Request) -> web.StreamResponse:
-    """The outages that began last, as far as this server has seen it, latest first."""
-    return answer(200, list(office_of(request).news))
+async def sheet(office: Office, query: Query) -> Json:
+    return search.sheet_view(office.state, query, await office.past() if search.wants_past(query) else {})
 
 
-async def sheet(request: web.Request) -> web.StreamResponse:
-    office, wanted = office_of(request), dict(request.query)
-    past = await office.past() if search.wants_past(wanted) else {}
-    return answer(200, search.sheet_view(office.state, wanted, past))
+async def position(office: Office, query: Query) -> Json:
+    """How a device stands at a second."""
+    state, name = office.state, query.get("device", "")
+    if name not in state.device_numbers:
+        raise web.HTTPNotFound()
+    supply = await office.supply(second_within(office, query))
+    holds = state.last_entry(state.devices[state.device_numbers[name]], supply.second)
+    return {"closed": supply.closed[name], "alive": supply.alive[name], "cause": holds.cause if holds else 0}
+
+
+async def forecast(office: Office, query: Query) -> Json:
+    """What a command would do, or the steps of an outage."""
+    if steps := query.get("steps"):
+        return await outage.forecast(office, outage.steps_in(steps))
+    kind = query.get("kind", "")
+    fields = [query.get(f"f{place}", "") for place, _ in enumerate(FIELDS.get(kind, ()), 1)]
+    return await forecasts.forecast(office, kind, fields)
 
 
 def entry_number(request: web.Request) -> int:
@@ -342,34 +358,6 @@ async def entry(request: web.Request) -> web.StreamResponse:
     return answer(200, shown)
 
 
-async def moment(request: web.Request) -> web.StreamResponse:
-    zone = office_of(request).state.period.zone
-    found = moments.read_moment(zone, request.query.get("text", ""))
-    return answer(200, [{"second": each.second, "text": each.text} for each in found])
-
-
-async def position(request: web.Request) -> web.StreamResponse:
-    """How a device stands at a second."""
-    state, name = office_of(request).state, request.query.get("device", "")
-    if name not in state.device_numbers:
-        raise web.HTTPNotFound()
-    supply = await office_of(request).supply(second_within(request))
-    holds = state.last_entry(state.devices[state.device_numbers[name]], supply.second)
-    shown = {"closed": supply.closed[name], "alive": supply.alive[name]}
-    return answer(200, {**shown, "cause": holds.cause if holds else 0})
-
-
-async def forecast(request: web.Request) -> web.StreamResponse:
-    """What a command would do, or the steps of an outage."""
-    office = office_of(request)
-    if steps := request.query.get("steps"):
-        return answer(200, await outage.forecast(office, outage.steps_in(steps)))
-    kind = request.query.get("kind", "")
-    names = FIELDS.get(kind, ())
-    fields = [request.query.get(f"f{place}", "") for place in range(1, len(names) + 1)]
-    return answer(200, await forecasts.forecast(office, kind, fields))
-
-
 async def command(request: web.Request) -> web.StreamResponse:
     """Sends a command under the page's reference, which has to be the login's own."""
     login, body = login_of(request) or "", await json_body(request)
@@ -392,20 +380,6 @@ async def command(request: web.Request) -> web.StreamResponse:
 async def rows(request: web.Request) -> web.StreamResponse:
     login, data = login_of(request) or "", await request.read()
     return answer(*await asyncio.shield(office_of(request).import_rows(login, data)))
-
-
-def shows(view: Callable[[Office, dict[str, str]], Any]) -> Handler:
-    """A route that shows what is known, by what is asked for."""
-
-    async def show(request: web.Request) -> web.StreamResponse:
-        return answer(200, view(office_of(request), dict(request.query)))
-
-    return show
-
-
-async def changes(request: web.Request) -> web.StreamResponse:
-    """What a shift hands over."""
-    return answer(200, await shift.shift_view(office_of(request), dict(request.query)))
 
 
 # The year.
@@ -431,13 +405,6 @@ async def table_text(request: web.Request) -> str:
 async def table(request: web.Request) -> web.StreamResponse:
     text = await table_text(request)
     return answer(200, {**year.table_view(text), **await to_now_view(office_of(request))})
-
-
-async def totals(request: web.Request) -> web.StreamResponse:
-    office = office_of(request)
-    if office.desk is None:
-        raise web.HTTPNotFound()
-    return web.Response(body=(await office.desk.ask("GET", "/totals")).body, content_type="application/json")
 
 
 async def download(request: web.Request) -> web.StreamResponse:
@@ -501,27 +468,26 @@ async def write_event(stream: web.StreamResponse, event: dict[str, Any]) -> None
 GETS: dict[str, Handler] = {
     "/health": health,
     "/favicon.ico": icon,
-    "/static/{name}": static,
+    r"/static/{name:[a-z]+\.(js|css|svg)}": static,
     "/events": events,
     "/report": report,
     "/download/{name}": download,
     "/api/me": me,
-    "/api/book": book,
-    "/api/second": second,
-    "/api/now": now,
-    "/api/news": news,
-    "/api/sheet": sheet,
+    "/api/book": shows(lambda office, _: views.book_view(office.state)),
+    "/api/second": shows(second),
+    "/api/now": shows(now),
+    "/api/news": shows(lambda office, _: list(office.news)),  # the outages that began last, as this server has seen it
+    "/api/sheet": shows(sheet),
     r"/api/entries/{no:\d{1,6}}": entry,
     r"/api/outages/{no:\d{1,6}}": outage_of,
-    "/api/moment": moment,
-    "/api/position": position,
-    "/api/forecast": forecast,
+    "/api/moment": shows(lambda office, query: moments.moment_view(office.state.period.zone, query.get("text", ""))),
+    "/api/position": shows(position),
+    "/api/forecast": shows(forecast),
     "/api/customers": shows(lambda office, query: views.customers_view(office.state, query)),
     "/api/log": shows(shift.log_view),
-    "/api/changes": changes,
+    "/api/changes": shows(shift.shift_view),
     "/api/marks": shows(lambda office, _: shift.marks_view(office)),
     "/api/year": table,
-    "/api/totals": totals,
 }
 POSTS: dict[str, Handler] = {"/api/name": give_name, "/api/command": command, "/api/import": rows}
 

@@ -213,7 +213,7 @@ export class Diagram {
     const rows = Math.max(...nodes.map((node) => node.row)) + 1;
     this.width = EDGE + layers * (sizes.box + sizes.gap) - sizes.gap + sizes.margin;
     this.height = EDGE * 2 + rows * ROW + 24;
-    this.element.classList.toggle("large", this.height > LOW);
+    this.element.parentElement.classList.toggle("large", this.height > LOW);
     const on_paper = this.width > WIDEST_ON_PAPER ? " no-print" : "";
     this.picture = svg("svg", { class: `diagram${on_paper}`, viewBox: `0 0 ${this.width} ${this.height}`, role: "group", "aria-label": "Devices: arrow keys go from one to the next" });
     this.layers = { way: svg("g"), node: svg("g"), sign: svg("g") };

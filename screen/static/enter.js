@@ -1,6 +1,7 @@
 // A switching, or a whole outage: its opening, what restored supply, and its closing, in one form that is sent once.
 import { fromAddress } from "./address.js";
 import { begin, causes, choice, el, field, foot, get, known, list, lookOnly, onCommands, randomLetters, reloadBook, settled, source, spelled, text, ticketLetters } from "./common.js";
+import { Draft } from "./drafts.js";
 import { shortcuts } from "./keys.js";
 import { Sender } from "./sender.js";
 import { savedSteps, Steps } from "./steps.js";
@@ -82,8 +83,25 @@ class Outage {
     await this.show(replies[0].entry);
   }
 
+  /** What is typed, for a page that is left and comes back. */
+  get typed() {
+    const { steps, cause, crew, ticket, remark, own, entry } = this;
+    return { rows: steps.rows.map((row) => row.typed), values: [cause, crew, ticket, remark].map((input) => input.value), own, entry };
+  }
+
+  async restore({ rows, values, own, entry }) {
+    if (entry) await this.show(entry);
+    this.own = own;
+    [this.cause, this.crew, this.ticket, this.remark].forEach((input, at) => {
+      input.value = values[at];
+      input.dispatchEvent(new Event("input")); // its spelling is looked at
+    });
+    await this.steps.restore(rows);
+  }
+
   /** Shows the entries that an outage has: all of them, and its name. */
   async show(number) {
+    this.entry = number;
     const found = await get(`/api/outages/${number}`);
     const another = el("a", { class: "another", href: "/enter" }, "A new outage");
     this.saved.replaceChildren(...savedSteps(found.entries), el("div", { class: "buttons" }, another));
@@ -120,6 +138,8 @@ begin(async () => {
   );
   onCommands(() => { outage.steps.forgetBook(); reloadBook(); });
   await outage.fill(fromAddress(["device", "at", "entry", "close"]));
+  const draft = (outage.sender.draft = new Draft(location.search, outage.form, () => outage.typed));
+  await draft.restore((typed) => outage.restore(typed));
   const focus = () => outage.steps.rows.at(-1).device.focus();
   shortcuts.n = () => (outage.steps.filled.length ? focus() : location.assign("/enter"));
   outage.steps.rows[0].device.focus();

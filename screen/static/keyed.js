@@ -12,8 +12,9 @@ const toldOf = (cell) => (typeof cell === "string" ? cell : cell.told);
 
 export class KeyedTable {
   /** Heads as those of `table`; `ended` is said in a row that isn't wanted any more while the table is held. Roles are told,
-   * since rows that are laid out as cards have none of their own. */
-  constructor(heads, name, caption, ended) {
+   * since rows that are laid out as cards have none of their own. `filled` hears whether there are rows. */
+  constructor(heads, name, caption, ended, filled) {
+    this.filled = filled;
     this.heads = heads;
     this.ended = ended;
     this.rows = new Map(); // by key: the row's element, its cells, and what they tell
@@ -70,6 +71,7 @@ export class KeyedTable {
     for (const row of wanted) this.patch(row);
     if (!isHeld) this.order();
     this.element.hidden = !this.rows.size;
+    this.filled(this.rows.size > 0);
     this.isLate = isHeld && (ended.length > 0 || wanted.some(({ key }, at) => this.body.children[at] !== this.rows.get(key).element));
   }
 

@@ -27,6 +27,7 @@ export class MomentField {
    * something is typed, `changed` when it has been read. */
   constructor(label, value, changed, { may_be_empty = false, goes = false, touched = () => {} } = {}) {
     this.second = null;
+    this.meant = null; // the moment that was read, or chosen of two, as it would be typed in full
     this.isNow = false;
     this.goes = goes;
     this.input = text({ value, placeholder: `${known.book.today} 06:10:00` });
@@ -38,7 +39,7 @@ export class MomentField {
     const read = settled(() => this.read());
     this.input.addEventListener("input", () => {
       this.isNow = false;
-      this.second = null;
+      this.second = this.meant = null;
       this.count += 1; // an answer that is on its way comes too late
       touched();
       read();
@@ -49,6 +50,11 @@ export class MomentField {
     setInterval(() => this.isNow && this.ask(), SET_AGAIN_SECONDS * 1000);
     document.addEventListener("visibilitychange", () => !document.hidden && this.isNow && this.ask());
     window.addEventListener("awake", () => this.isNow && this.ask());
+  }
+
+  /** What is typed, as `set` takes it on another day, too; nothing where the field shows the time that is now. */
+  get typed() {
+    return this.isNow ? "" : this.meant ?? this.input.value;
   }
 
   /** What is typed isn't read yet. */
@@ -91,7 +97,7 @@ export class MomentField {
 
   async read() {
     const count = ++this.count;
-    this.second = null;
+    this.second = this.meant = null;
     if (!this.input.value.trim()) {
       this.told.replaceChildren(this.may_be_empty ? "" : this.goes ? "Type a time, or leave the field empty for now." : "A time is needed.");
       this.second = this.may_be_empty ? "" : null;
@@ -111,6 +117,7 @@ export class MomentField {
     if (count !== this.count) return;
     if (found.length === 1) {
       this.second = String(found[0].second);
+      this.meant = momentWords(found[0].text);
       this.told.replaceChildren(`${found[0].text.slice(0, 10)} ${found[0].text.slice(11, 19)}, ${found[0].text.slice(19)} from UTC`);
     } else {
       this.choose(found);
@@ -132,6 +139,7 @@ export class MomentField {
           value: each.second,
           change: () => {
             this.second = String(each.second);
+            this.meant = momentWords(each.text);
             this.changed();
           },
         }),

@@ -1,5 +1,6 @@
 // The network: nodes, devices with their lives, customers by section; and the commands that change them.
 import { begin, choice, el, field, foot, get, known, list, lookOnly, number, onCommands, reloadBook, renew, scrolling, settled, spelled, table, text } from "./common.js";
+import { Draft } from "./drafts.js";
 import { MomentField } from "./moments.js";
 import { Sender } from "./sender.js";
 
@@ -25,12 +26,13 @@ function inputOf(type, label, changed, touched) {
     const note = type === "since" ? " (empty: always)" : type === "until" ? " (empty: without end)" : "";
     const made = new MomentField(label + note, "", changed, { may_be_empty: type !== "moment", touched });
     if (type !== "moment") made.second = "";
-    return { element: made.element, input: made.input, value: () => made.second, needed: type === "moment" };
+    const fill = (typed) => typed && made.set(typed);
+    return { element: made.element, input: made.input, value: () => made.second, typed: () => made.typed, fill, needed: type === "moment" };
   }
   const lists = { node: "nodes", section: "sections", device: "devices" };
   const input = type === "normal" ? choice([["open", "open: a tie"], ["closed", "closed"]]) : text({ list: lists[type], maxlength: 24 });
   input.addEventListener("input", changed);
-  return { element: field(label, input, type === "normal" || type === "number" ? null : spelled(input, "name")), input, value: () => input.value.trim().toUpperCase().replace(/^(OPEN|CLOSED)$/, (word) => (type === "normal" ? word.toLowerCase() : word)), needed: true };
+  return { element: field(label, input, type === "normal" || type === "number" ? null : spelled(input, "name")), input, typed: () => input.value, fill: (typed) => (input.value = typed), value: () => input.value.trim().toUpperCase().replace(/^(OPEN|CLOSED)$/, (word) => (type === "normal" ? word.toLowerCase() : word)), needed: true };
 }
 
 function commandForm() {
@@ -52,7 +54,20 @@ function commandForm() {
   };
   kind.addEventListener("input", build);
   build();
-  return { element: el("div", { class: "two no-print" }, card, el("div", { class: "card" }, sender.element)), choose: (name, ...values) => { kind.value = name; build(); values.forEach((value, at) => (inputs[at].input.value = value)); sender.update(); inputs[0].input.focus(); }, sender };
+  const fill = async (name, values) => {
+    kind.value = name;
+    build();
+    for (const [at, value] of values.entries()) await inputs[at].fill(value);
+    sender.update();
+  };
+  sender.draft = new Draft("change", card, () => [kind.value, inputs.map((input) => input.typed())]);
+  sender.draft.restore((typed) => fill(...typed));
+  const choose = async (name, ...values) => {
+    await fill(name, values);
+    sender.draft.touch();
+    inputs[0].input.focus();
+  };
+  return { element: el("div", { class: "two no-print" }, card, el("div", { class: "card" }, sender.element)), choose, sender };
 }
 
 let form = null;

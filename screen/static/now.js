@@ -12,6 +12,7 @@ const NOT_READ = 422; // the status of a time that can't be read
 const main = document.getElementById("main");
 const tiles = el("div", { class: "tiles inline" });
 const trouble = el("div", {});
+const side = el("div", { class: "side" });
 const diagram = new Diagram();
 let at = fromAddress(["at"]).at ?? "";
 let early = at ? null : get("/api/now").catch(() => null); // is asked for while the page's head is
@@ -91,9 +92,10 @@ function controls() {
 }
 
 begin(async () => {
-  outages = new Outages();
+  outages = new Outages((isAny) => side.classList.toggle("listed", isAny));
   const shownControls = controls();
-  main.append(tiles, trouble, shownControls, el("div", { class: "side" }, outages.element, diagram.element), foot(`Who is without supply is ${source()}.`));
+  side.append(outages.element, diagram.element);
+  main.append(tiles, trouble, shownControls, side, foot(`Who is without supply is ${source()}.`));
   onCommands(() => show());
   if (at) {
     await field.set(at);

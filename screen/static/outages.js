@@ -38,9 +38,9 @@ const wordsOf = (outage) => [outage.device, outage.crew, outage.reference, ...ou
 
 /** What the fields ask for, kept in the page's address: a link, a reload and the way back show the same. */
 export class Outages {
-  constructor() {
+  constructor(filled) {
     this.wanted = { feeder: "", cause: "", text: "", order: "", ...fromAddress(["feeder", "cause", "text", "order"]) };
-    this.table = new KeyedTable(HEADS, "outages", "Outages, by what cut them off", "supplied again");
+    this.table = new KeyedTable(HEADS, "outages", "Outages, by what cut them off", "supplied again", filled);
     this.title = el("h2", {});
     this.none = el("div", { role: "status" });
     this.element = el("section", { "aria-label": "Outages", class: "list" }, this.title, this.none, this.table.element);
@@ -152,7 +152,8 @@ function unfolded(outage, names) {
   const rows = outage.sections.map((row) => el("li", {}, row.section, el("span", { class: "note" }, ` ${number(row.customers)}`)));
   const one = rows.length === 1 && el("span", { class: "one" }, breakable(names));
   const summary = el("summary", {}, one || "", el("span", { class: one ? "many" : null }, `${rows.length} section${one ? "" : "s"}`));
-  return [el("details", {}, summary, el("ul", { class: "names" }, rows)), el("span", { class: "print-only" }, names)];
+  const toggle = ({ target }) => target.closest("tr")?.classList.toggle("unfolded", target.open);
+  return [el("details", { toggle }, summary, el("ul", { class: "names" }, rows)), el("span", { class: "print-only" }, names)];
 }
 
 /** An entry's number, and its ticket's. */

@@ -41,6 +41,7 @@ export class Sender {
     this.after = after;
     this.intent = null;
     this.isBusy = false;
+    this.draft = null; // keeps what is typed for a page that is left
     this.count = 0;
     this.shown = null; // the forecast, and the commands that it is of
     this.commands = null;
@@ -174,6 +175,7 @@ export class Sender {
     const { commands, replies } = intent;
     const onItsWay = (command) => {
       keep(intent); // first: what is said to be on its way is known after the page is left, too
+      this.draft?.drop();
       const step = commands.length > 1 ? `, step ${replies.length + 1} of ${commands.length}` : "";
       this.outcome.replaceChildren(el("p", { class: "ask" }, `On its way to the desk as ${command.ref}${step}.`));
     };
@@ -250,6 +252,7 @@ export class Sender {
     if (trouble.shown.entry) parts.push(el("p", { class: "stale" }, `The entry is now: ${entryWords(trouble.shown.entry)}`));
     this.outcome.replaceChildren(el("div", { class: "bad refusal" }, parts));
     this.after(null, trouble.shown, intent);
+    this.draft?.touch();
     this.update();
   }
 

@@ -1,6 +1,7 @@
 // The switching log: entries, what each command moved, corrections and withdrawals; and the screen's own log.
 import { fromAddress, toAddress } from "./address.js";
 import { begin, causes, choice, el, field, foot, get, known, list, lookOnly, momentWords, number, onCommands, renew, scrolling, settled, source, spelled, table, text, zoneName } from "./common.js";
+import { Draft } from "./drafts.js";
 import { listed, ticketOf } from "./elements.js";
 import { MomentField } from "./moments.js";
 import { movesTable } from "./forecast.js";
@@ -137,6 +138,7 @@ async function open(no, { kind = "correct" } = {}) {
     return;
   }
   opened = { no: entry.no, revision: entry.revision, sender: null };
+  toAddress({ entry: String(entry.no), withdraw: kind === "withdraw" ? "yes" : "" });
   const words = el("p", {}, entryWords(entry));
   const parts = [el("h2", {}, `Entry ${entry.no} `, tags(entry)), words];
   for (const command of entry.history) {
@@ -146,7 +148,7 @@ async function open(no, { kind = "correct" } = {}) {
     parts.push(el("details", {}, el("summary", {}, words), reply ? scrolling("What it changed", movesTable(reply.moved)) : "the desk gives no reply now"));
   }
   if (entry.kept && known.me.may_send) parts.push(work(entry, words, kind));
-  parts.push(el("div", { class: "buttons" }, el("button", { type: "button", click: () => { opened = null; detail.replaceChildren(); rows.querySelector(`[data-entry="${no}"]`)?.focus(); } }, "Close")));
+  parts.push(el("div", { class: "buttons" }, el("button", { type: "button", click: () => { opened = null; toAddress({ entry: "", withdraw: "" }); detail.replaceChildren(); rows.querySelector(`[data-entry="${no}"]`)?.focus(); } }, "Close")));
   detail.replaceChildren(el("div", { class: "card" }, parts));
   detail.focus();
 }
@@ -189,8 +191,14 @@ function work(entry, words, asked) {
   told.hidden = kind.value === "withdraw";
   kind.addEventListener("input", () => { told.hidden = kind.value === "withdraw"; changed(); });
   for (const input of [position, cause, crew]) input.addEventListener("input", changed);
-  second.read();
-  form.append(el("div", {}, field("What", kind), told), sender.element);
+  const fields = el("div", {}, field("What", kind), told);
+  form.append(fields, sender.element);
+  sender.draft = new Draft(`${entry.no} ${entry.revision}`, fields, () => [kind.value, second.typed, position.value, cause.value, crew.value]);
+  second.read().then(() => sender.draft.restore(async (typed) => {
+    [kind.value, , position.value, cause.value, crew.value] = typed;
+    told.hidden = kind.value === "withdraw";
+    await second.set(typed[1]);
+  }));
   return form;
 }
 

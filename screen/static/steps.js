@@ -23,6 +23,10 @@ class Step {
     return this.device.value.trim().toUpperCase();
   }
 
+  get typed() {
+    return { device: this.device.value, time: this.second.typed, position: this.isChosen ? this.position.value : "" };
+  }
+
   lock(locked) {
     for (const input of [this.device, this.position, this.second.input]) input.disabled = locked;
   }
@@ -75,6 +79,19 @@ export class Steps {
     if (this.rows.at(-1).name) this.add();
     while (this.rows.length > 1 && !this.rows.at(-2).name) this.rows.pop().element.remove();
     for (const row of this.rows) row.rest.hidden = this.rows.length > 1 && row === this.rows.at(-1);
+  }
+
+  /** Puts back what was typed into some rows. */
+  async restore(rows) {
+    for (const [at, { device, time, position }] of rows.entries()) {
+      const row = this.rows[at];
+      row.device.value = device;
+      this.tidy();
+      if (time) await row.second.set(time);
+      row.isChosen = Boolean(position);
+      if (position) row.position.value = position;
+    }
+    this.look();
   }
 
   /** Takes out the rows that are sent, or all of them. */

@@ -7,7 +7,7 @@ import { known, post, Trouble } from "./requests.js";
 
 const PREFIX = "outagebook-unanswered ";
 const LOOK_SECONDS = 5; // between two looks whether a page that sent a command is still there
-export const store = storage();
+export const store = storage("localStorage");
 const here = new Map(); // what this page itself sends, by reference: its form shows it, and goes on with it
 const title = el("summary", {});
 const rows = el("ul", {});
@@ -16,10 +16,10 @@ const place = el("div", { class: "unanswered no-print", hidden: true }, el("deta
 const shown = new Map(); // rows by reference
 const answered = []; // who wants to know that a command was answered by another page
 
-/** What the browser keeps for all pages of the screen; a browser that is told to keep nothing has none. */
-function storage() {
+/** What the browser keeps, for all pages of the screen or for those of a tab; one that is told to keep nothing has none. */
+export function storage(kind) {
   try {
-    return window.localStorage;
+    return window[kind];
   } catch {
     return null;
   }

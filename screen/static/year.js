@@ -1,5 +1,6 @@
 // The figures: up to now where the period goes on, and of the whole period as the desk answers them; marks, imports, downloads.
 import { begin, choice, el, field, foot, get, inMinutes, known, list, moment, number, onCommands, post, reloadBook, renew, scrolling, source, table, text } from "./common.js";
+import { Draft } from "./drafts.js";
 import { IMPORT_SECONDS } from "./requests.js";
 import { markedDays } from "./marks.js";
 import { Sender } from "./sender.js";
@@ -125,6 +126,8 @@ function markForm() {
   const form = el("form", { class: "card" }, el("h2", {}, "Mark a day"), list("days", known.book.days), field("What", kind), field("Day", day, `Marked by ${known.me.name}.`));
   const sender = new Sender({ read, form, lock: (locked) => [kind, day].forEach((input) => (input.disabled = locked)) });
   for (const input of [kind, day]) input.addEventListener("input", sender.update);
+  sender.draft = new Draft("mark", form, () => [kind.value, day.value]);
+  sender.draft.restore((typed) => ([kind.value, day.value] = typed));
   sender.update();
   form.append(sender.element);
   return form;

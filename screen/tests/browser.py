@@ -5,7 +5,8 @@ from __future__ import annotations
 import base64
 import tempfile
 import time
-from collections.abc import Callable
+from collections.abc import Callable, Iterator
+from contextlib import contextmanager
 from pathlib import Path
 from typing import Any
 
@@ -18,34 +19,12 @@ from selenium.webdriver.common.keys import Keys
 from selenium.webdriver.remote.webelement import WebElement
 
 CHROMIUM, DRIVER = "/usr/bin/chromium", "/usr/bin/chromedriver"
+WORDS = ("--headless=new", "--no-sandbox", "--disable-gpu", "--disable-dev-shm-usage", "--hide-scrollbars")
+PROBES = Path(__file__).with_name("probes.js").read_text(encoding="utf-8")
 CLICKS = 5  # on an element that moves
 MOVED = (ElementClickInterceptedException, StaleElementReferenceException)
-# An element that is enabled, once its place was the same for a tenth of a second.
-RESTS = """
-const [selector, done] = arguments, found = document.querySelector(selector);
-if (!found || found.disabled) done(null);
-else {
-  found.scrollIntoView({ block: "center" });
-  const place = () => { const box = found.getBoundingClientRect(); return [box.x, box.y, box.width, box.height].join(); };
-  const before = place();
-  setTimeout(() => done(found.isConnected && !found.disabled && place() === before ? found : null), 100);
-}
-"""
-MIDDLE = """
-arguments[0].scrollIntoView({ block: "center" });
-const box = arguments[0].getBoundingClientRect();
-return { x: box.x + box.width / 2, y: box.y + box.height / 2 };
-"""
-HEARS = """
-window.isClicked = false;
-arguments[0].addEventListener("click", () => { window.isClicked = true; }, { once: true, capture: true });
-"""
-RECORDS = """
-const place = document.querySelector(arguments[0]);
-window.recorded = [place.innerText];
-const note = () => window.recorded.push(place.innerText);
-new MutationObserver(note).observe(place, { childList: true, subtree: true, characterData: true });
-"""
+WIDE, PHONE = (1280, 900), (390, 844)
+A4 = 702  # pixels between its margins
 
 
 class Browser:
@@ -55,107 +34,178 @@ class Browser:
         options: Any = webdriver.ChromeOptions()
         options.binary_location = CHROMIUM
         self.profile = tempfile.TemporaryDirectory(prefix="screen-browser-")
-        for word in (
-            "--headless=new",
-            "--no-sandbox",
-            "--disable-gpu",
-            "--disable-dev-shm-usage",
-            "--hide-scrollbars",
-            *words,
-        ):
+        for word in (*WORDS, *words, f"--user-data-dir={self.profile.name}"):
             options.add_argument(word)
-        options.add_argument(f"--user-data-dir={self.profile.name}")
         options.set_capability("goog:loggingPrefs", {"browser": "ALL"})
         self.driver: Any = webdriver.Chrome(service=Service(DRIVER), options=options)
+        self.driver.set_script_timeout(support.WAIT_SECONDS)
         self.resize(width, height)
         self.scheme = "dark" if dark else "light"
         self.media("")
-        self.driver.execute_cdp_cmd("Emulation.setTimezoneOverride", {"timezoneId": "Pacific/Kiritimati"})
+        self.tell("Emulation.setTimezoneOverride", timezoneId="Pacific/Kiritimati")
+
+    def tell(self, method: str, **words: Any) -> Any:
+        """Speaks to the browser itself."""
+        return self.driver.execute_cdp_cmd(method, words)
 
     def resize(self, width: int, height: int) -> None:
-        metrics = {"width": width, "height": height, "deviceScaleFactor": 1, "mobile": width < 500}
-        self.driver.execute_cdp_cmd("Emulation.setDeviceMetricsOverride", metrics)
-        self.driver.execute_cdp_cmd("Emulation.setTouchEmulationEnabled", {"enabled": width < 500})
+        self.width, self.height, is_phone = width, height, width < 500
+        self.tell(
+            "Emulation.setDeviceMetricsOverride", width=width, height=height, deviceScaleFactor=1, mobile=is_phone
+        )
+        self.tell("Emulation.setTouchEmulationEnabled", enabled=is_phone)
 
     def media(self, media: str) -> None:
         """Shows pages as for a screen (""), or as for paper ("print")."""
-        scheme = [{"name": "prefers-color-scheme", "value": self.scheme}]
-        self.driver.execute_cdp_cmd("Emulation.setEmulatedMedia", {"media": media, "features": scheme})
+        self.tell(
+            "Emulation.setEmulatedMedia",
+            media=media,
+            features=[{"name": "prefers-color-scheme", "value": self.scheme}],
+        )
 
     def end(self) -> None:
         self.driver.quit()
         self.profile.cleanup()
 
+    # Pages.
+
     def open(self, url: str, name: str | None = "ANNA") -> None:
-        """Opens a page, with a name given where one is."""
+        """Opens a page as in a new tab, with a name given where one is."""
         if name is not None:
-            base = "/".join(url.split("/")[:3])
-            self.driver.get(f"{base}/static/icon.svg")
+            self.driver.get(f"{'/'.join(url.split('/')[:3])}/static/icon.svg")
             self.driver.add_cookie({"name": "screen_name", "value": name, "path": "/"})
+            self.script("sessionStorage.clear()")
         self.driver.get_log("browser")
+        self.go(url)
+
+    def go(self, url: str) -> None:
+        """Goes on to a page in the same tab."""
         self.driver.get(url)
         self.ready()
 
+    def back(self) -> None:
+        self.driver.back()
+        self.ready()
+
+    def reload(self) -> None:
+        self.driver.refresh()
+        self.ready()
+
     def ready(self) -> None:
-        support.until(
-            lambda: self.driver.execute_script("return document.body.dataset.ready") == "yes", what="the page"
-        )
+        self.wait(lambda: self.script("return document.body.dataset.ready") == "yes", "the page")
+
+    def at(self, heading: str) -> None:
+        """Waits until another page is there, which something has led to."""
+        self.wait(lambda: self.text("h1") == heading, f"the page {heading}")
+        self.ready()
+
+    # What is there.
+
+    def script(self, script: str, *given: Any) -> Any:
+        return self.driver.execute_script(script, *given)
+
+    def probe(self, name: str, *given: Any) -> Any:
+        """What a function of probes.js answers."""
+        return self.driver.execute_script(f"{PROBES}\nreturn {name}(...arguments);", *given)
 
     def all(self, selector: str) -> list[WebElement]:
         found: list[WebElement] = self.driver.find_elements(By.CSS_SELECTOR, selector)
         return found
 
     def find(self, selector: str) -> WebElement:
-        found: WebElement = support.until(lambda: self.all(selector), what=selector)[0]
+        found: WebElement = self.wait(lambda: self.all(selector), selector)[0]
         return found
 
     def field(self, label: str) -> WebElement:
         """The field of a label."""
-        script = (
-            "const label = [...document.querySelectorAll('label')].find((each) => each.textContent.startsWith(arguments[0]));"
-            "return label && (label.control || label.querySelector('input'));"
-        )
-        found: WebElement = support.until(lambda: self.driver.execute_script(script, label), what=label)
+        found: WebElement = self.wait(lambda: self.probe("field", label), label)
         return found
 
+    def value(self, label: str) -> str | None:
+        """What the field of a label has."""
+        found: str | None = self.field(label).get_attribute("value")
+        return found
+
+    @property
+    def title(self) -> str:
+        return str(self.driver.title)
+
+    @property
+    def focus(self) -> WebElement:
+        found: WebElement = self.driver.switch_to.active_element
+        return found
+
+    def text(self, selector: str) -> str:
+        script = "return [...document.querySelectorAll(arguments[0])].map((each) => each.innerText).join('\\n')"
+        return str(self.script(script, selector))
+
+    def wait(self, seen: Callable[[], Any], what: str) -> Any:
+        return support.until(seen, what=what)
+
+    def says(self, selector: str, words: str) -> str:
+        """Waits until an element says some words: all that it says."""
+        self.wait(lambda: words in self.text(selector), f"{words!r} in {selector}")
+        return self.text(selector)
+
+    def quiet(self) -> None:
+        """Waits until nothing is wrong any more with what the page shows."""
+        self.wait(lambda: self.text(".alarm") == "", "the page without its alarm")
+
+    def record(self, selector: str) -> None:
+        """Keeps all that an element says from now on, also what is gone before it is read."""
+        self.probe("record", selector)
+
+    @property
+    def heard(self) -> str:
+        """All that an element has said since it is recorded."""
+        return str(self.script("return window.recorded.join('\\n')"))
+
+    def recorded(self, words: str) -> None:
+        """Waits until an element has said some words since it is recorded."""
+        self.wait(lambda: words in self.heard, words)
+
+    def unanswered(self, count: int) -> None:
+        """Waits until so many commands are said to have no answer, and unfolds them."""
+        self.says(".unanswered summary", f"{count} command{'s' if count > 1 else ''} without an answer")
+        self.unfold(".unanswered")
+
+    def complaints(self) -> list[str]:
+        """What the browser's console complains of since the page was opened: scripts that failed, what the policy forbids."""
+        rows = [row["message"] for row in self.driver.get_log("browser") if row["level"] == "SEVERE"]
+        return [row for row in rows if "Failed to load resource" not in row]
+
+    # What an operator does.
+
+    def press(self, *keys: str) -> None:
+        """Presses keys where the focus is."""
+        self.focus.send_keys(*keys)
+
     def fill(self, label: str, value: str) -> None:
-        """Types into a field, or chooses what begins so; selects take the value by the keyboard as well."""
+        """Types into a field, or chooses what begins so."""
         field = self.field(label)
         if field.tag_name == "select":
-            script = (
-                "const [field, value] = arguments;"
-                "field.value = [...field.options].find((each) => each.text.startsWith(value) || each.value === value).value;"
-                "field.dispatchEvent(new Event('input', { bubbles: true }));"
-            )
-            self.driver.execute_script(script, field, value)
+            self.probe("choose", field, value)
         else:
             field.send_keys(Keys.CONTROL, "a")
             field.send_keys(Keys.DELETE)
             field.send_keys(value)
 
-    def text(self, selector: str) -> str:
-        found: Any = self.driver.execute_script(
-            "return [...document.querySelectorAll(arguments[0])].map((each) => each.innerText).join('\\n')", selector
-        )
-        return str(found)
-
-    def says(self, selector: str, words: str, seconds: float = support.WAIT_SECONDS) -> str:
-        """Waits until an element says some words: all that it says."""
-        support.until(lambda: words in self.text(selector), seconds, f"{words!r} in {selector}")
-        return self.text(selector)
-
     def click(self, selector: str) -> None:
         """Clicks on an element once it can be clicked and rests; again where it moved away from under the click."""
         for _ in range(CLICKS):
-            found = support.until(lambda: self.resting(selector), what=f"{selector} to be clicked")
+            found = self.wait(lambda: self.probe("resting", selector), f"{selector} to be clicked")
             try:
-                self.driver.execute_script(HEARS, found)
+                self.probe("hearClick", found)
                 found.click()
             except MOVED:
                 continue
-            if self.driver.execute_script("return window.isClicked !== false"):  # another page knows nothing of it
+            if self.script("return window.isClicked !== false"):  # another page knows nothing of it
                 return
         raise AssertionError(f"{selector} wasn't hit by a click")
+
+    def can_send(self) -> None:
+        """Waits until what the form says can be sent."""
+        self.wait(lambda: self.all(".send") and self.find(".send").is_enabled(), "the button")
 
     def send(self) -> None:
         """Sends what the form says, once it can be sent, and sees that it did what was forecast."""
@@ -164,64 +214,37 @@ class Browser:
 
     def point_at(self, element: WebElement) -> None:
         """Brings the mouse over an element."""
-        point = self.driver.execute_script(MIDDLE, element)
-        self.driver.execute_cdp_cmd("Input.dispatchMouseEvent", {"type": "mouseMoved", **point})
+        self.tell("Input.dispatchMouseEvent", type="mouseMoved", **self.probe("middle", element))
 
     def unfold(self, selector: str) -> None:
         """Unfolds all that is folded in an element."""
-        script = "document.querySelectorAll(`${arguments[0]} details`).forEach((each) => (each.open = true))"
-        self.driver.execute_script(script, selector)
-
-    def unanswered(self, count: int) -> None:
-        """Waits until so many commands are said to have no answer, and unfolds them."""
-        self.says(".unanswered summary", f"{count} command{'s' if count > 1 else ''} without an answer")
-        self.unfold(".unanswered")
-
-    def resting(self, selector: str) -> WebElement | None:
-        """An element in the window's middle, if it is enabled and stays where it is."""
-        found: WebElement | None = self.driver.execute_async_script(RESTS, selector)
-        return found
-
-    def record(self, selector: str) -> None:
-        """Keeps all that an element says from now on, also what is gone before it is read."""
-        self.driver.execute_script(RECORDS, selector)
-
-    def recorded(self, words: str) -> None:
-        """Waits until an element has said some words since it is recorded."""
-        support.until(lambda: words in self.driver.execute_script("return window.recorded.join('\\n')"), what=words)
-
-    def tap(self, element: WebElement) -> None:
-        """Taps on an element as a finger does; by its own clock, so that it is no long press where the machine is busy."""
-        point, now = self.driver.execute_script(MIDDLE, element), time.time()
-        for kind, points, moment in (("touchStart", [point], now), ("touchEnd", [], now + 0.05)):
-            touch = {"type": kind, "touchPoints": points, "timestamp": moment}
-            self.driver.execute_cdp_cmd("Input.dispatchTouchEvent", touch)
+        self.script(
+            "document.querySelectorAll(`${arguments[0]} details`).forEach((each) => (each.open = true))", selector
+        )
 
     def tap_on(self, words: str) -> None:
-        """Taps on a link or a button by its words, once it can be tapped on."""
-        script = (
-            "return [...document.querySelectorAll('a, button, summary')].find((each) =>"
-            "  !each.disabled && (each.textContent.trim() === arguments[0] || each.ariaLabel?.startsWith(arguments[0])));"
-        )
-        found = support.until(lambda: self.driver.execute_script(script, words), what=f"{words!r} to be tapped on")
-        self.tap(found)
+        """Taps on a link or a button by its words, once it can be tapped on, as a finger does; by its own clock, so that it is
+        no long press where the machine is busy."""
+        found = self.wait(lambda: self.probe("tapped", words), f"{words!r} to be tapped on")
+        point, now = self.probe("middle", found), time.time()
+        for kind, points, moment in (("touchStart", [point], now), ("touchEnd", [], now + 0.05)):
+            self.tell("Input.dispatchTouchEvent", type=kind, touchPoints=points, timestamp=moment)
 
-    def wait(self, seen: Callable[[], Any], what: str) -> Any:
-        return support.until(seen, what=what)
+    # Paper.
 
-    def complaints(self) -> list[str]:
-        """What the browser's console complains of since the page was opened: scripts that failed, what the policy forbids."""
-        rows = [row["message"] for row in self.driver.get_log("browser") if row["level"] == "SEVERE"]
-        return [row for row in rows if "Failed to load resource" not in row]
+    @contextmanager
+    def on_paper(self) -> Iterator[None]:
+        """The page as it is laid out for A4."""
+        size = self.width, self.height
+        self.media("print")
+        self.resize(A4, 1000)
+        try:
+            yield
+        finally:
+            self.resize(*size)
+            self.media("")
 
     def paper(self, path: str) -> None:
         """The page as it is printed on A4, without backgrounds, as browsers print where nobody asks for them."""
-        shown = self.driver.execute_cdp_cmd("Page.printToPDF", {"paperWidth": 8.27, "paperHeight": 11.69})
+        shown = self.tell("Page.printToPDF", paperWidth=8.27, paperHeight=11.69)
         Path(path).write_bytes(base64.b64decode(shown["data"]))
-
-    def picture(self, path: str, whole: bool = True) -> None:
-        if whole:
-            height = self.driver.execute_script("return document.documentElement.scrollHeight")
-            width = self.driver.execute_script("return window.innerWidth")
-            self.resize(width, min(6_000, int(height)))
-        self.driver.save_screenshot(path)

@@ -39,6 +39,7 @@ IN_SHORT = (
     "test_outage.References",
     "test_outage.Outages.test_three_restorations_by_seventy_keys_and_one_send",
     "test_outage.Outages.test_killed_between_steps_and_resumed",
+    "test_outage.Outages.test_a_form_that_is_left_comes_back",
     "test_proxy.BehindNginx.test_logins_and_who_may_send",
     "test_proxy.BehindNginx.test_one_connection_for_all_pages",
     "test_browser.Live.test_ten_tabs_or_windows_of_one_browser",

@@ -7,6 +7,7 @@ import itertools
 import json
 import os
 import shutil
+import signal
 import socket
 import subprocess
 import sys
@@ -16,11 +17,11 @@ import time
 import unittest
 import urllib.error
 import urllib.request
-from collections.abc import Callable
+from collections.abc import Callable, Sequence
 from datetime import datetime, timedelta, timezone
-from functools import lru_cache
+from functools import lru_cache, partial
 from pathlib import Path
-from typing import Any
+from typing import IO, Any
 
 SCREEN = Path(__file__).resolve().parent.parent
 ROOT = SCREEN.parent
@@ -44,6 +45,11 @@ def run(*words: object) -> str:
     if done.returncode != 0:
         raise AssertionError(f"{words}: {done.stdout}{done.stderr}")
     return done.stdout
+
+
+def output_of(*words: object) -> bytes:
+    """What another program prints."""
+    return subprocess.run(list(map(str, words)), check=True, capture_output=True).stdout
 
 
 def new_book(name: str, text: Path | None = None, period: tuple[str, str, str] = FORTNIGHT) -> Path:
@@ -146,23 +152,24 @@ def limit(seconds: float) -> float:
     return seconds if os.getloadavg()[0] < len(os.sched_getaffinity(0)) else 5 * seconds
 
 
+def started(words: Sequence[object], errors: int | IO[str]) -> tuple[subprocess.Popen[str], int]:
+    """A program that listens, and its port; 0 where it ended before."""
+    process = subprocess.Popen(list(map(str, words)), stdout=subprocess.PIPE, stderr=errors, text=True)
+    assert process.stdout is not None
+    return process, int(process.stdout.readline().rpartition(":")[2] or 0)
+
+
 class Desk:
     """A desk of its own port."""
 
     def __init__(self, book: Path, port: int = 0):
         self.book = book
-        command = [str(PROGRAM), "serve", "--book", str(book), "--port", str(port)]
-        self.process = subprocess.Popen(command, stdout=subprocess.PIPE, stderr=subprocess.DEVNULL, text=True)
-        assert self.process.stdout is not None
-        line = self.process.stdout.readline()
-        self.port = int(line.rpartition(":")[2])
+        self.process, self.port = started([PROGRAM, "serve", "--book", book, "--port", port], subprocess.DEVNULL)
         self.url = f"http://127.0.0.1:{self.port}"
 
     def kill(self) -> None:
-        self.process.kill()
-        self.process.wait()
-        assert self.process.stdout is not None
-        self.process.stdout.close()
+        with self.process:
+            self.process.kill()
 
     def get(self, route: str) -> Any:
         return json.loads(call(self.url + route)[1])
@@ -183,47 +190,13 @@ def call(url: str, body: bytes | None = None, headers: dict[str, str] | None = N
             return error.code, error.read()
 
 
-class Screen:
-    """A screen over a book, on a port of its own."""
+class Client:
+    """Who asks a screen, and sends commands under a name."""
 
-    def __init__(
-        self,
-        book: Path,
-        *words: str,
-        desk: Desk | None = None,
-        command: Path = SCREEN / "outagebook-screen",
-        program: Path = PROGRAM,
-    ):
-        started = [str(command), "--book", str(book), "--port", "0", "--program", str(program)]
-        started += ["--desk", desk.url] if desk else []
-        self.book = book
-        self.said = tempfile.TemporaryFile("w+", dir=folder())
-        self.process = subprocess.Popen([*started, *words], stdout=subprocess.PIPE, stderr=self.said, text=True)
-        assert self.process.stdout is not None
-        line = self.process.stdout.readline()
-        if not line:
-            raise AssertionError(self.errors())
-        self.port = int(line.rpartition(":")[2])
-        self.url = f"http://127.0.0.1:{self.port}"
-        self.headers: dict[str, str] = {}
-
-    def end(self) -> None:
-        """Ends it, and sees that it had nothing to complain of."""
-        if self.said.closed:
-            return
-        self.process.terminate()
-        self.process.wait(20)
-        errors = self.errors()
-        self.said.close()
-        assert self.process.stdout is not None
-        self.process.stdout.close()
-        if errors:
-            raise AssertionError(errors)
-
-    def errors(self) -> str:
-        """What it said on standard error."""
-        self.said.seek(0)
-        return self.said.read()
+    def __init__(self, url: str, name: str = ""):
+        self.url, self.headers = url, dict[str, str]()
+        if name:
+            self.log_in(name)
 
     def call(self, route: str, body: bytes | None = None, headers: dict[str, str] | None = None) -> tuple[int, Any]:
         """The status and the JSON of a request."""
@@ -251,10 +224,53 @@ class Screen:
         at = str(second or int(time.time()))
         return self.send(kind="switch", f1=device, f2=position, f3=at, f4=str(cause), f5=crew)
 
+    def entries(self) -> list[Any]:
+        """The first rows of the switching log, newest first."""
+        found: list[Any] = self.call("/api/sheet")[1]["rows"]
+        return found
+
     def number(self) -> int:
         """The last command that the screen knows."""
         found: int = self.call("/health")[1]["number"]
         return found
+
+
+class Screen(Client):
+    """A screen over a book, on a port of its own."""
+
+    def __init__(
+        self,
+        book: Path,
+        *words: str,
+        desk: Desk | None = None,
+        command: Path = SCREEN / "outagebook-screen",
+        program: Path = PROGRAM,
+    ):
+        of_desk = ["--desk", desk.url] if desk else []
+        self.book = book
+        self.said = tempfile.TemporaryFile("w+", dir=folder())
+        told = [command, "--book", book, "--port", 0, "--program", program, *of_desk, *words]
+        self.process, self.port = started(told, self.said)
+        if not self.port:
+            raise AssertionError(self.errors())
+        super().__init__(f"http://127.0.0.1:{self.port}")
+
+    def end(self) -> None:
+        """Ends it, and sees that it had nothing to complain of."""
+        if self.said.closed:
+            return
+        with self.process:
+            self.process.terminate()
+            self.process.wait(20)
+        errors = self.errors()
+        self.said.close()
+        if errors:
+            raise AssertionError(errors)
+
+    def errors(self) -> str:
+        """What it said on standard error."""
+        self.said.seek(0)
+        return self.said.read()
 
     def desk_process(self) -> int:
         """The process of the desk that this screen started over the book, and not over a copy of it."""
@@ -268,16 +284,43 @@ class Screen:
 class Case(unittest.TestCase):
     """A test whose desks, screens and proxies end with it; where no book is named they are over the sample's."""
 
+    live: Screen
+
+    @classmethod
+    def share(cls, book: Path, *words: str, desk: Desk | None = None) -> None:
+        """Starts a screen for all tests of a class, at which BERT sends commands."""
+        cls.live = Screen(book, *words, desk=desk)
+        cls.addClassCleanup(cls.live.end)
+        cls.live.log_in("BERT")
+
     def desk(self, book: Path | None = None, port: int = 0) -> Desk:
         found = Desk(book or fortnight(f"{self.id()}-{time.time_ns()}"), port)
         self.addCleanup(found.kill)
         return found
 
-    def screen(self, *words: str, desk: Desk | None = None, book: Path | None = None, **how: Path) -> Screen:
+    def screen(
+        self, *words: str, desk: Desk | None = None, book: Path | None = None, login: str = "", **how: Path
+    ) -> Screen:
         book = book or (desk.book if desk else fortnight(f"{self.id()}-{time.time_ns()}"))
         found = Screen(book, *words, desk=desk, **how)
         self.addCleanup(found.end)
+        if login:
+            found.log_in(login)
         return found
+
+    def between(self, *words: str) -> tuple[Desk, Between, Screen]:
+        """A desk, a proxy before it, and a screen that comes to it by that."""
+        desk = self.desk()
+        proxy = Between(desk.port)
+        self.addCleanup(proxy.end)
+        return desk, proxy, self.screen("--desk", proxy.url, *words, book=desk.book)
+
+    def stop(self, process: int) -> Callable[[], None]:
+        """Stops a process, which goes on when the answer is called, at the test's end at the latest."""
+        os.kill(process, signal.SIGSTOP)
+        go_on = partial(os.kill, process, signal.SIGCONT)
+        self.addCleanup(go_on)
+        return go_on
 
 
 class Between:
@@ -292,6 +335,7 @@ class Between:
         self.dead: set[socket.socket] = set()
         self.socket = socket.create_server(("127.0.0.1", 0))
         self.port = self.socket.getsockname()[1]
+        self.url = f"http://127.0.0.1:{self.port}"
         threading.Thread(target=self.run, daemon=True).start()
 
     def answer(self, status: int) -> None:

@@ -5,6 +5,7 @@ import shlex
 import shutil
 import subprocess
 import unittest
+from pathlib import Path
 
 import support
 
@@ -13,12 +14,13 @@ ANALYZE = shutil.which("systemd-analyze")
 
 
 class Installed(support.Case):
+    def install(self, prefix: Path, **told: str) -> None:
+        told |= {"PATH": "/usr/bin:/bin", "PROGRAM": str(support.PROGRAM)}
+        subprocess.run(["sh", support.ROOT / "install.sh", prefix], check=True, capture_output=True, env=told)
+
     def test_it_starts_from_its_place(self) -> None:
         prefix = support.folder() / "prefix"
-        words = ["sh", str(support.ROOT / "install.sh"), str(prefix)]
-        subprocess.run(
-            words, check=True, capture_output=True, env={"PATH": "/usr/bin:/bin", "PROGRAM": str(support.PROGRAM)}
-        )
+        self.install(prefix)
         book = support.fortnight("installed")
         screen = self.screen(command=prefix / "bin/outagebook-screen", program=prefix / "bin/outagebook", book=book)
         self.assertEqual(screen.call("/health")[1]["desk"], "here")
@@ -30,9 +32,7 @@ class Installed(support.Case):
         """The units of systemd are sound where install.sh's DESTDIR has put what they start, and the words with which the
         screen's unit starts it, with the book and the ports of here, start it."""
         root = support.folder() / "root"
-        words = ["sh", str(support.ROOT / "install.sh"), "/usr/local"]
-        told = {"PATH": "/usr/bin:/bin", "PROGRAM": str(support.PROGRAM), "DESTDIR": str(root)}
-        subprocess.run(words, check=True, capture_output=True, env=told)
+        self.install(Path("/usr/local"), DESTDIR=str(root))
         shipped = root / "usr/local/share/doc/outagebook/deploy"
         units = root / "etc/systemd/system"
         units.mkdir(parents=True)
@@ -63,9 +63,12 @@ class Installed(support.Case):
             return done.returncode, done.stderr
 
         book, program = str(support.fortnight("statuses")), str(support.PROGRAM)
-        self.assertEqual(status()[0], 64)
-        self.assertEqual(status("--book", book, "--port", "99999")[0], 64)
-        self.assertEqual(status("--book", book, "--desk", "http://127.0.0.1:1", "--no-desk")[0], 64)
+        for wrong in (
+            (),
+            ("--book", book, "--port", "99999"),
+            ("--book", book, "--desk", "http://127.0.0.1:1", "--no-desk"),
+        ):
+            self.assertEqual(status(*wrong)[0], 64, wrong)
         self.assertEqual(status("--book", f"{book}.nowhere", "--program", program)[0], 1)
         self.assertIn("can't be run", status("--book", book, "--program", "/nowhere/outagebook")[1])
         other = support.folder() / "other.db"

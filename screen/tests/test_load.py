@@ -4,14 +4,15 @@ import json
 import os
 import shutil
 import socket
-import subprocess
 import sys
 import tempfile
 import threading
 import time
 import unittest
 import urllib.parse
-from functools import lru_cache
+from collections.abc import Callable
+from concurrent.futures import ThreadPoolExecutor
+from functools import lru_cache, partial
 from pathlib import Path
 
 import browser
@@ -37,7 +38,7 @@ def year() -> Path:
         return book
     text = place / "year.csv"
     words = [sys.executable, str(support.ROOT / "benches/make_year.py"), "10000", "1", "--csv"]
-    text.write_bytes(subprocess.run(words, check=True, capture_output=True).stdout)
+    text.write_bytes(support.output_of(*words))
     support.run("init", "--book", book, "--first", YEAR[0], "--days", YEAR[1], "--zone", YEAR[2])
     support.run("import", "--book", book, text)
     return book
@@ -81,40 +82,25 @@ class Load(support.Case):
         self.addCleanup(slow.close)
         listeners = [Listener(screen.port) for _ in range(CLIENTS)]
         support.until(lambda: all(each.last for each in listeners), what="all pages")
-        answers: list[tuple[int, float]] = []
-        failures: list[str] = []
+        answers: list[int] = []
         end = time.monotonic() + SECONDS
 
         def send(client: int) -> None:
-            me = support.call(f"{screen.url}/api/me", headers={"Cookie": f"screen_name=C{client}"})[1]
-            headers = {"Cookie": f"screen_name=C{client}", "X-Screen-Token": json.loads(me)["token"]}
-            headers["Content-Type"] = "application/json"
-            number = 0
+            sender, number = support.Client(screen.url, f"C{client}"), 0
             while time.monotonic() < end:
                 second = 1_742_770_800 + client * 50_000 + number
-                command = {"kind": "switch", "f1": "TIE-1", "f2": ("close", "open")[number % 2], "f3": str(second)}
-                command |= {"f4": "1", "f5": f"C{client}", "ref": f"SCR-C{client}-{number}"}
-                status, body = support.call(f"{screen.url}/api/command", json.dumps(command).encode(), headers)
-                reply = json.loads(body)
-                if status != 200:
-                    failures.append(str(reply))
-                else:
-                    answers.append((reply["reply"]["no"], time.monotonic()))
+                shown = sender.switch(("close", "open")[number % 2], "TIE-1", second=second)
+                answers.append(shown["reply"]["no"])
                 support.call(f"{screen.url}/api/now")
                 number += 1
 
-        threads = [threading.Thread(target=send, args=(client,)) for client in range(CLIENTS)]
-        for thread in threads:
-            thread.start()
-        for thread in threads:
-            thread.join()
-        self.assertEqual(failures, [])
-        self.assertEqual(sorted(number for number, _ in answers), list(range(103, 103 + len(answers))))
+        with ThreadPoolExecutor(CLIENTS) as clients:
+            list(clients.map(send, range(CLIENTS)))
+        self.assertEqual(sorted(answers), list(range(103, 103 + len(answers))))
         last = 102 + len(answers)
         support.until(lambda: all(each.last == last for each in listeners), what="the last command on all pages")
-        print(
-            f"{len(answers)} commands in {SECONDS:.0f} s by {CLIENTS} clients, each told to {CLIENTS} pages", flush=True
-        )
+        words = f"by {CLIENTS} clients, each told to {CLIENTS} pages"
+        print(f"{len(answers)} commands in {SECONDS:.0f} s {words}", flush=True)
 
     @unittest.skipUnless(
         os.environ.get("SCREEN_YEAR") or os.environ.get("SCREEN_LONG"), "the made year takes its minutes"
@@ -126,17 +112,8 @@ class Load(support.Case):
         screen = self.screen(desk=desk)
         started, processor = time.monotonic() - begun, processor_seconds(screen.process.pid)
         pages = {}
-        for route in (
-            "/api/now",
-            "/api/book",
-            "/api/sheet",
-            SEARCH,
-            "/api/entries/9000",
-            "/api/year",
-        ):
-            begun = time.monotonic()
-            self.assertEqual(screen.call(route)[0], 200)
-            pages[route] = time.monotonic() - begun
+        for route in ("/api/now", "/api/book", "/api/sheet", SEARCH, "/api/entries/9000", "/api/year"):
+            pages[route] = self.seconds_of(lambda: self.assertEqual(screen.call(route)[0], 200))
             self.assertLess(pages[route], support.limit(8.0 if route == SEARCH else 1.0), route)
         first = pages.pop(SEARCH)
         listeners = [Listener(screen.port) for _ in range(CLIENTS)]
@@ -144,19 +121,13 @@ class Load(support.Case):
         screen.log_in("ANNA")
         device = screen.call("/api/book")[1]["devices"][40]["name"]
         slowest = 0.0
-        for number, second in enumerate((1_704_067_200, 1_710_000_000, 1_720_000_000, 1_735_689_599)):
-            command = {"kind": "switch", "f1": device, "f2": "open", "f3": str(second), "f4": "1", "f5": "ANNA"}
-            status, shown = screen.post({**command, "ref": f"SCR-ANNA-{number}"})
-            answered = time.monotonic()
-            self.assertEqual(status, 200)
-            told = support.until(lambda: all(shown["reply"]["no"] in each.told for each in listeners), what="the event")
-            self.assertTrue(told)
+        for second in (1_704_067_200, 1_710_000_000, 1_720_000_000, 1_735_689_599):
+            shown, answered = screen.switch("open", device, second=second), time.monotonic()
+            support.until(lambda: all(shown["reply"]["no"] in each.told for each in listeners), what="the event")
             slowest = max(slowest, *(each.told[shown["reply"]["no"]] - answered for each in listeners))
         self.assertLess(slowest, support.limit(0.5))
         self.steps_of_a_year(screen, device)
-        begun = time.monotonic()
-        self.assertEqual(screen.call(SEARCH)[0], 200)
-        again = time.monotonic() - begun
+        again = self.seconds_of(lambda: self.assertEqual(screen.call(SEARCH)[0], 200))
         self.assertLess(again, support.limit(1.0))
         print(f"a search by section: the first {first:.1f} s, after some commands {again:.2f} s", flush=True)
         lines = Path(f"/proc/{screen.process.pid}/status").read_text().splitlines()
@@ -173,11 +144,15 @@ class Load(support.Case):
         switched = [(1_720_000_000 + 600 * number, position) for number, position in enumerate(("open", "close") * 2)]
         steps = [["switch", device, position, str(second), "1", "ANNA"] for second, position in switched]
         route = f"/api/forecast?{urllib.parse.urlencode({'steps': json.dumps(steps)})}"
+        ready = self.seconds_of(lambda: support.until(lambda: screen.call(route)[0] == 200, what="the copy"))
+        took = self.seconds_of(lambda: self.assertEqual(screen.call(route)[0], 200))
+        print(f"four steps: {took:.2f} s; the copy was waited for {ready:.1f} s", flush=True)
+
+    def seconds_of(self, work: Callable[[], object]) -> float:
+        """How long some work takes."""
         begun = time.monotonic()
-        support.until(lambda: screen.call(route)[0] == 200, what="the copy")
-        ready, begun = time.monotonic() - begun, time.monotonic()
-        self.assertEqual(screen.call(route)[0], 200)
-        print(f"four steps: {time.monotonic() - begun:.2f} s; the copy was waited for {ready:.1f} s", flush=True)
+        work()
+        return time.monotonic() - begun
 
     def pages_of_a_year(self, screen: support.Screen) -> None:
         """Each page of the year in Chromium, from its address to all that it shows at first: the least of some times. In
@@ -185,26 +160,12 @@ class Load(support.Case):
         page = browser.Browser()
         self.addCleanup(page.end)
         found = {}
-        routes = {
-            "Now": "/",
-            "switching log": "/sheet",
-            "new switching": "/enter",
-            "Network": "/network",
-            "Figures": "/year",
-        }
+        routes = {"Now": "/", "log": "/sheet", "new switching": "/enter", "Network": "/network", "Figures": "/year"}
         for name, route in routes.items():
             page.open(screen.url + route)
-            times = []
-            for _ in range(TIMES):
-                begun = time.monotonic()
-                page.driver.get(screen.url + route)
-                page.ready()
-                times.append(time.monotonic() - begun)
-            found[name] = min(times)
-        print(
-            f"a year in Chromium at load {os.getloadavg()[0]:.0f}:",
-            ", ".join(f"{name} {took:.2f} s" for name, took in found.items()),
-        )
+            found[name] = min(self.seconds_of(partial(page.go, screen.url + route)) for _ in range(TIMES))
+        words = ", ".join(f"{name} {took:.2f} s" for name, took in found.items())
+        print(f"a year in Chromium at load {os.getloadavg()[0]:.0f}: {words}")
         self.assertLess(max(found.values()), support.limit(1.0))
         page.open(f"{screen.url}/")
         page.wait(lambda: page.find(".diagram-place").get_attribute("aria-busy") == "false", "the whole diagram")

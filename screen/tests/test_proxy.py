@@ -32,19 +32,14 @@ class Nginx:
         self.port, self.place = port, place
         place.mkdir()
         words = ["openssl", "req", "-x509", "-newkey", "rsa:2048", "-nodes", "-days", "2", "-subj", f"/CN={NAME}"]
-        words += ["-keyout", str(place / "outagebook.key"), "-out", str(place / "outagebook.pem")]
-        subprocess.run(words, check=True, capture_output=True)
-        lines = []
-        for login in ("desk-anna", "reader"):
-            secret = subprocess.run(["openssl", "passwd", "-apr1", "word"], check=True, capture_output=True, text=True)
-            lines.append(f"{login}:{secret.stdout}")
-        (place / "outagebook.passwd").write_text("".join(lines))
+        support.output_of(*words, "-keyout", place / "outagebook.key", "-out", place / "outagebook.pem")
+        secret = support.output_of("openssl", "passwd", "-apr1", "word").decode()
+        (place / "outagebook.passwd").write_text(f"desk-anna:{secret}reader:{secret}")
         text = (support.DEPLOY / "nginx.conf").read_text()
         text = text.replace("/etc/nginx/", f"{place}/").replace("listen 443", f"listen 127.0.0.1:{port}")
         text = text.replace("127.0.0.1:8081", f"127.0.0.1:{screen}")
-        temporary = "".join(
-            f"{name}_temp_path {place}/{name};\n" for name in ("client_body", "proxy", "fastcgi", "uwsgi", "scgi")
-        )
+        kinds = ("client_body", "proxy", "fastcgi", "uwsgi", "scgi")
+        temporary = "".join(f"{kind}_temp_path {place}/{kind};\n" for kind in kinds)
         config = f"daemon off; user root; pid {place}/pid; error_log {place}/error.log;\nevents {{}}\nhttp {{ access_log off;\n"
         (place / "nginx.conf").write_text(f"{config}{temporary}{text}\n}}\n")
         self.process = self.start()
@@ -66,9 +61,7 @@ class Nginx:
         self.process.terminate()
         self.process.wait()
 
-    def ask(
-        self, method: str, route: str, login: str = "", body: str | None = None, **headers: str
-    ) -> tuple[int, bytes]:
+    def ask(self, route: str, login: str = "", body: str | None = None, **headers: str) -> tuple[int, bytes]:
         """A request by TLS."""
         unchecked = ssl._create_unverified_context()
         connection = http.client.HTTPSConnection("127.0.0.1", self.port, context=unchecked, timeout=30)
@@ -76,7 +69,7 @@ class Nginx:
         if login:
             told["Authorization"] = "Basic " + base64.b64encode(f"{login}:word".encode()).decode()
         try:
-            connection.request(method, route, body, told)
+            connection.request("POST" if body else "GET", route, body, told)
             reply = connection.getresponse()
             return reply.status, reply.read()
         finally:
@@ -84,29 +77,27 @@ class Nginx:
 
 
 @unittest.skipUnless(Path(NGINX).exists(), "nginx isn't installed")
-class BehindNginx(unittest.TestCase):
+class BehindNginx(support.Case):
     def setUp(self) -> None:
         self.port = free_port()
         self.words = ("--proxy", "127.0.0.1", "--senders", "desk-", "--host", NAME, "--host", f"{NAME}:{self.port}")
-        self.screen = support.Screen(support.fortnight(self._testMethodName), *self.words)
-        self.addCleanup(self.screen.end)
-        self.nginx = Nginx(support.folder() / f"nginx-{self._testMethodName}", self.screen.port, self.port)
-        self.addCleanup(lambda: self.nginx.end())
+        self.live = self.screen(*self.words)
+        self.nginx = Nginx(support.folder() / f"nginx-{self._testMethodName}", self.live.port, self.port)
+        self.addCleanup(self.nginx.end)
 
     def test_logins_and_who_may_send(self) -> None:
-        self.assertEqual(self.nginx.ask("GET", "/")[0], 401)
-        self.assertEqual(self.nginx.ask("GET", "/", "reader")[0], 200)
-        me = json.loads(self.nginx.ask("GET", "/api/me", "desk-anna", X_Remote_User="desk-bert")[1])
+        self.assertEqual(self.nginx.ask("/")[0], 401)
+        self.assertEqual(self.nginx.ask("/", "reader")[0], 200)
+        me = json.loads(self.nginx.ask("/api/me", "desk-anna", X_Remote_User="desk-bert")[1])
         self.assertEqual((me["login"], me["name"], me["may_send"]), ("desk-anna", "DESK-ANNA", True))
-        reader = json.loads(self.nginx.ask("GET", "/api/me", "reader", X_Remote_User="desk-anna")[1])
+        reader = json.loads(self.nginx.ask("/api/me", "reader", X_Remote_User="desk-anna")[1])
         self.assertEqual((reader["name"], reader["may_send"]), ("READER", False))
         for login, token, status in (("desk-anna", me["token"], 200), ("reader", reader["token"], 403)):
             command = json.dumps({**LIGHTHOUSE, "ref": f"SCR-{login.upper()}-1"})
             told = {"Content_Type": "application/json", "X_Screen_Token": token}
-            self.assertEqual(self.nginx.ask("POST", "/api/command", login, command, **told)[0], status)
-            self.assertEqual(
-                self.nginx.ask("POST", "/api/command", login, command, **told, Origin="https://evil.example")[0], 403
-            )
+            self.assertEqual(self.nginx.ask("/api/command", login, command, **told)[0], status)
+            evil = self.nginx.ask("/api/command", login, command, **told, Origin="https://evil.example")
+            self.assertEqual(evil[0], 403)
 
     def test_one_connection_for_all_pages(self) -> None:
         """By HTTP/2 a browser's pages share one connection: six streams of events don't fill it."""
@@ -120,15 +111,14 @@ class BehindNginx(unittest.TestCase):
         page = self.browser()
         page.open(f"https://{NAME}:{self.port}/", None)
         page.says("main", "LIGHTHOUSE")
-        self.screen.end()
+        self.live.end()
         page.says(".alarm", "WHAT IS SHOWN MAY BE OLD")
-        self.screen = support.Screen(self.screen.book, *self.words, "--port", str(self.screen.port))
-        self.addCleanup(self.screen.end)
-        page.wait(lambda: page.text(".alarm") == "", "the page without its alarm")
-        me = json.loads(self.nginx.ask("GET", "/api/me", "desk-anna")[1])
+        self.screen(*self.words, "--port", str(self.live.port), book=self.live.book)
+        page.quiet()
+        me = json.loads(self.nginx.ask("/api/me", "desk-anna")[1])
         told = {"Content_Type": "application/json", "X_Screen_Token": me["token"]}
         command = json.dumps({**LIGHTHOUSE, "ref": "SCR-DESK-ANNA-1"})
-        self.assertEqual(self.nginx.ask("POST", "/api/command", "desk-anna", command, **told)[0], 200)
+        self.assertEqual(self.nginx.ask("/api/command", "desk-anna", command, **told)[0], 200)
         page.says("main", "All sections are supplied")
 
     def browser(self) -> browser.Browser:
@@ -145,7 +135,7 @@ class BehindNginx(unittest.TestCase):
         page = self.browser()
         page.open(f"https://{NAME}:{self.port}/enter?device=LBS-22&at=2025-04-06T23:52:00%2B02:00", None)
         page.says("header", "You are DESK-ANNA")
-        page.wait(lambda: page.find(".send").is_enabled(), "the button")
+        page.can_send()
         os.kill(self.nginx.process.pid, signal.SIGTERM)
         self.nginx.process.wait()
         page.click(".send")
@@ -153,7 +143,7 @@ class BehindNginx(unittest.TestCase):
         self.nginx.process = self.nginx.start()
         page.click(".again")
         page.says(".outcome .equal", "As forecast")
-        self.assertEqual(self.screen.call("/health")[1]["number"], 103)
+        self.assertEqual(self.live.number(), 103)
         self.assertEqual(page.complaints(), [])
 
 

@@ -10,6 +10,8 @@ import threading
 import time
 import unittest
 import urllib.parse
+from concurrent.futures import ThreadPoolExecutor
+from contextlib import suppress
 from datetime import date
 from pathlib import Path
 from typing import Any, cast
@@ -26,11 +28,9 @@ def talk(port: int, data: bytes, seconds: float = 20) -> bytes:
     with socket.create_connection(("127.0.0.1", port), timeout=seconds) as connection:
         connection.sendall(data)
         parts = []
-        try:
+        with suppress(ConnectionResetError):
             while part := connection.recv(65_536):
                 parts.append(part)
-        except ConnectionResetError:
-            pass
         return b"".join(parts)
 
 
@@ -43,14 +43,10 @@ def is_running(process: int) -> bool:
 
 class Commands(support.Case):
     def test_refusals_in_words(self) -> None:
-        screen = self.screen()
-        screen.log_in("ANNA")
-        wrong = [
-            (
-                {"kind": "correct", "f1": "10", "f2": "1", "f3": "close", "f4": "1743093000", "f5": "2", "f6": "A"},
-                7,
-                "revision 2",
-            ),
+        screen = self.screen(login="ANNA")
+        old = {"kind": "correct", "f1": "10", "f2": "1", "f3": "close", "f4": "1743093000", "f5": "2", "f6": "A"}
+        wrong: list[tuple[dict[str, str], int, str]] = [
+            (old, 7, "revision 2"),
             ({**LIGHTHOUSE, "f3": "1"}, 5, "2025-03-24T00:00:00+01:00"),
             ({**LIGHTHOUSE, "f1": "NOSUCH"}, 2, "no device NOSUCH"),
             ({**LIGHTHOUSE, "f5": "<b>"}, 1, "crew"),
@@ -63,7 +59,7 @@ class Commands(support.Case):
             self.assertIn(status, (409, 422), command)
             self.assertEqual(shown["reply"]["refused"], refused, command)
             self.assertIn(words, shown["words"])
-        stale = screen.post({**wrong[0][0], "ref": "SCR-ANNA-S"})[1]
+        stale = screen.post({**old, "ref": "SCR-ANNA-S"})[1]
         self.assertEqual((stale["entry"]["no"], stale["entry"]["revision"]), (10, 2))
         screen.post({**LIGHTHOUSE, "ref": "SCR-ANNA-C"})
         conflict = screen.post({**LIGHTHOUSE, "f5": "CREW-1", "ref": "SCR-ANNA-C"})[1]
@@ -83,8 +79,7 @@ class Commands(support.Case):
 
     def test_other_spellings_of_a_command(self) -> None:
         """A command is kept in the book's own spelling, however a client of the screen spelled it."""
-        screen = self.screen()
-        screen.log_in("ANNA")
+        screen = self.screen(login="ANNA")
         spelled = {**LIGHTHOUSE, "f3": "2025-04-06T23:52:00+02:00", "f4": "05"}
         self.assertEqual(screen.post({**spelled, "ref": "SCR-ANNA-1"})[0], 200)
         self.assertEqual(screen.call("/api/entries/36")[1]["second"]["second"], 1_743_976_320)
@@ -100,8 +95,7 @@ class Commands(support.Case):
         self.assertEqual(screen.call("/api/now")[1]["at"], last)
 
     def test_the_log_has_login_reference_and_answer(self) -> None:
-        screen = self.screen()
-        screen.log_in("ANNA")
+        screen = self.screen(login="ANNA")
         screen.post({**LIGHTHOUSE, "ref": "SCR-ANNA-1"})
         lines = [json.loads(line) for line in screen.book.with_name("book.db-screen.jsonl").read_text().splitlines()]
         self.assertEqual([line["reference"] for line in lines], ["SCR-ANNA-1", "SCR-ANNA-1"])
@@ -123,29 +117,25 @@ class Commands(support.Case):
         self.assertIn(b"SAIDI", support.call(f"{screen.url}/report")[1])
 
 
-class Figures(unittest.TestCase):
+class Figures(support.Case):
     """What is asked of a book whose period goes on: searches, times, spellings, what came between."""
-
-    screen: support.Screen
 
     @classmethod
     def setUpClass(cls) -> None:
-        cls.screen = support.Screen(support.small(cls.__name__))
-        cls.addClassCleanup(cls.screen.end)
-        cls.screen.log_in("ANNA")
+        cls.share(support.small(cls.__name__))
 
     def switch(self, seconds_ahead: int) -> Any:
         """Opens LBS-1, some seconds from now: the entry's number."""
-        return self.screen.switch("open", "LBS-1", second=int(time.time()) + seconds_ahead)["entry"]
+        return self.live.switch("open", "LBS-1", second=int(time.time()) + seconds_ahead)["entry"]
 
     def forecast(self, **fields: str) -> tuple[int, Any]:
         told = {"kind": "switch", "f1": "LBS-1", "f2": "open", "f4": "1", "f5": "ANNA", "f3": str(int(time.time()))}
-        return self.screen.call(f"/api/forecast?{urllib.parse.urlencode({**told, **fields})}")
+        return self.live.call(f"/api/forecast?{urllib.parse.urlencode({**told, **fields})}")
 
     def test_late_and_future(self) -> None:
         """A second to come doesn't make all that follows late; more than a quarter of an hour back is late."""
         ahead, entry, late = self.switch(4 * 3_600), self.switch(-60), self.switch(-3_600)
-        found = {each: self.screen.call(f"/api/entries/{each}")[1]["late"] for each in (ahead, entry, late)}
+        found = {each: self.live.call(f"/api/entries/{each}")[1]["late"] for each in (ahead, entry, late)}
         self.assertEqual(found, {ahead: False, entry: False, late: True})
         now = int(time.time())
         self.assertEqual(self.forecast(f2="close", f3=str(now))[1]["hints"], [])
@@ -166,11 +156,11 @@ class Figures(unittest.TestCase):
             ("marked=odd", "odd"),
             ("order=odd", "odd"),
         ):
-            status, shown = self.screen.call(f"/api/sheet?{query}")
+            status, shown = self.live.call(f"/api/sheet?{query}")
             self.assertEqual(status, 422, query)
             self.assertIn(words, shown["words"])
         for query in ("section=ILL", "section=mill", "device=lbs", f"day={date.today().isoformat()}"):
-            self.assertGreater(self.screen.call(f"/api/sheet?{query}")[1]["found"], 0, query)
+            self.assertGreater(self.live.call(f"/api/sheet?{query}")[1]["found"], 0, query)
 
     def test_what_the_desk_cannot_read_is_refused_before(self) -> None:
         for fields, words in (
@@ -200,26 +190,28 @@ class Reports(support.Case):
         program.write_text(SLOW_PROGRAM.format(calls=calls, program=support.PROGRAM))
         program.chmod(0o755)
         screen = self.screen(desk=desk, program=program)
-        found: list[tuple[int, bytes]] = []
-        readers = [
-            threading.Thread(target=lambda: found.append(support.call(f"{screen.url}/report"))) for _ in range(8)
-        ]
-        for reader_of_it in readers:
-            reader_of_it.start()
-        support.until(calls.exists, what="a report that is being made")
-        self.assertEqual(desk.post({**LIGHTHOUSE, "ref": "CURL-1"})[0], 200)
-        support.until(lambda: screen.number() == 103, 2.5, "the command of another client, before the report is made")
-        self.assertEqual(found, [])
-        for reader_of_it in readers:
-            reader_of_it.join()
-        self.assertEqual({status for status, _ in found}, {200})
-        self.assertLessEqual(calls.read_text().split().count("table"), 2)
-        made = calls.read_text().split().count("table")
-        self.assertEqual(support.call(f"{screen.url}/report")[0], 200)
-        self.assertLessEqual(calls.read_text().split().count("table"), made + 1)
-        made = calls.read_text().split().count("table")
-        self.assertEqual(support.call(f"{screen.url}/report")[0], 200)
-        self.assertEqual(calls.read_text().split().count("table"), made)
+
+        def report() -> int:
+            return support.call(f"{screen.url}/report")[0]
+
+        def made() -> int:
+            return calls.read_text().split().count("table")
+
+        with ThreadPoolExecutor(8) as readers:
+            found = [readers.submit(report) for _ in range(8)]
+            support.until(calls.exists, what="a report that is being made")
+            self.assertEqual(desk.post({**LIGHTHOUSE, "ref": "CURL-1"})[0], 200)
+            support.until(
+                lambda: screen.number() == 103, 2.5, "the command of another client, before the report is made"
+            )
+            self.assertFalse(any(each.done() for each in found))
+        self.assertEqual({each.result() for each in found}, {200})
+        before = made()
+        self.assertLessEqual(before, 2)
+        self.assertEqual(report(), 200)
+        after = made()
+        self.assertLessEqual(after, before + 1)
+        self.assertEqual((report(), made()), (200, after))
 
     def test_what_is_made_once(self) -> None:
         """Who asks while it is being made gets that one, or its failure; another version is made anew."""
@@ -247,17 +239,14 @@ class Reports(support.Case):
         self.assertEqual(asyncio.run(ask()), [[each] * 5 for each in ("1", "1", "2", away, away, "5")])
 
     def test_the_table_is_asked_for_once_a_command(self) -> None:
-        desk = self.desk()
-        between = support.Between(desk.port)
-        self.addCleanup(between.end)
-        screen = self.screen("--desk", f"http://127.0.0.1:{between.port}", book=desk.book)
+        _, proxy, screen = self.between()
         screen.log_in("ANNA")
         first = screen.call("/api/year")[1]
         self.assertEqual([screen.call("/api/year")[1] for _ in range(3)], [first] * 3)
-        self.assertEqual(between.routes.count("/table"), 1)
+        self.assertEqual(proxy.routes.count("/table"), 1)
         self.assertEqual(screen.post({**LIGHTHOUSE, "ref": "SCR-ANNA-1"})[0], 200)
         self.assertNotEqual(screen.call("/api/year")[1]["totals"]["W"], first["totals"]["W"])
-        self.assertEqual(between.routes.count("/table"), 2)
+        self.assertEqual(proxy.routes.count("/table"), 2)
 
 
 class Faults(support.Case):
@@ -265,8 +254,7 @@ class Faults(support.Case):
         """The desk is killed at random moments while commands are sent: none is lost, none acts twice. One that had no answer
         in all its tries is told as not known, and sent again under its reference."""
         times = int(os.environ.get("SCREEN_KILLS", "8"))
-        screen = self.screen()
-        screen.log_in("ANNA")
+        screen = self.screen(login="ANNA")
         ended = threading.Event()
 
         def kill() -> None:
@@ -309,8 +297,7 @@ class Faults(support.Case):
 
     def test_a_desk_that_is_away(self) -> None:
         desk = self.desk()
-        screen = self.screen(desk=desk)
-        screen.log_in("ANNA")
+        screen = self.screen(desk=desk, login="ANNA")
         desk.kill()
         support.until(lambda: screen.call("/health")[1]["desk"] == "away", what="the desk away")
         self.assertEqual(screen.call("/health")[0], 503)
@@ -326,9 +313,8 @@ class Faults(support.Case):
         steps = [["switch", "LBS-22", position, "1743976320", "5", "ANNA"] for position in ("close", "open")]
         forecast = f"/api/forecast?{urllib.parse.urlencode({'steps': json.dumps(steps)})}"
         self.assertEqual(screen.call(forecast)[0], 200)  # there is a copy
-        before, desk = screen.call("/api/now")[1], screen.desk_process()
-        os.kill(desk, signal.SIGSTOP)
-        self.addCleanup(os.kill, desk, signal.SIGCONT)
+        before = screen.call("/api/now")[1]
+        self.stop(screen.desk_process())
         begun = time.monotonic()
         self.assertEqual(screen.call("/api/now")[1], before)
         routes = (forecast, "/api/position?device=LBS-22", "/api/changes", "/api/sheet?feeder=1", "/api/entries/35")
@@ -344,25 +330,13 @@ class Faults(support.Case):
         support.until(lambda: not any(is_running(int(desk)) for desk in desks), what="their end")
 
 
-def begin_post(screen: support.Screen, route: str, kind: str, body: bytes, length: int) -> socket.socket:
-    """A POST as the page sends it, but for the end of its body: its connection."""
-    told = {
-        **screen.headers,
-        "Host": f"127.0.0.1:{screen.port}",
-        "Content-Type": kind,
-        "Content-Length": str(len(body)),
-    }
-    head = f"POST {route} HTTP/1.1\r\n" + "".join(f"{name}: {value}\r\n" for name, value in told.items())
+def begin_post(screen: support.Screen, route: str, kind: str, body: bytes, part: float) -> socket.socket:
+    """A POST as the page sends it, with a part of its body, its last byte never: its connection."""
+    told = {**screen.headers, "Host": f"127.0.0.1:{screen.port}", "Content-Type": kind, "Content-Length": len(body)}
+    head = f"POST /api/{route} HTTP/1.1\r\n" + "".join(f"{name}: {value}\r\n" for name, value in told.items())
     connection = socket.create_connection(("127.0.0.1", screen.port), timeout=30)
-    connection.sendall(f"{head}\r\n".encode() + body[:length])
+    connection.sendall(f"{head}\r\n".encode() + body[: min(round(part * len(body)), len(body) - 1)])
     return connection
-
-
-def send_where_open(connection: socket.socket, data: bytes) -> None:
-    try:
-        connection.sendall(data)
-    except OSError:
-        pass
 
 
 async def unread_reply() -> str:
@@ -397,76 +371,62 @@ class Hostile(support.Case):
     """Bad requests: a named answer or a closed connection, and the desk isn't touched."""
 
     def setUp(self) -> None:
-        self.seen = self.screen()
-        self.seen.log_in("ANNA")
+        self.seen = self.screen(login="ANNA")
 
-    def command(self, **headers: str | None) -> int:
+    def command(self, **headers: str) -> int:
         body = json.dumps({**LIGHTHOUSE, "ref": "SCR-ANNA-1"}).encode()
-        told: dict[str, str | None] = {"Content-Type": "application/json", **headers}
-        return self.seen.call(
-            "/api/command", body, {name.replace("_", "-"): value for name, value in told.items() if value}
-        )[0]
+        told = {name.replace("_", "-"): value for name, value in headers.items()}
+        return self.seen.call("/api/command", body, {"Content-Type": "application/json", **told})[0]
 
     def test_origins_hosts_tokens_methods(self) -> None:
-        self.assertEqual(self.command(X_Screen_Token="0" * 64), 403)
-        self.assertEqual(self.command(Origin="https://evil.example"), 403)
-        self.assertEqual(self.command(Origin="null"), 403)
-        self.assertEqual(self.command(Origin=f"https://127.0.0.1:{self.seen.port}"), 403)
-        self.assertEqual(self.command(Host="evil.example"), 403)
-        self.assertEqual(self.command(Sec_Fetch_Site="cross-site"), 403)
-        self.assertEqual(self.command(Content_Type="text/plain"), 415)
+        for status, headers in (
+            (403, {"X_Screen_Token": "0" * 64}),
+            (403, {"Origin": "https://evil.example"}),
+            (403, {"Origin": "null"}),
+            (403, {"Origin": f"https://127.0.0.1:{self.seen.port}"}),
+            (403, {"Host": "evil.example"}),
+            (403, {"Sec_Fetch_Site": "cross-site"}),
+            (415, {"Content_Type": "text/plain"}),
+        ):
+            self.assertEqual(self.command(**headers), status, headers)
         self.assertEqual(self.seen.call("/api/now", headers={"Sec-Fetch-Site": "cross-site"})[0], 403)
-        for method, status in (("DELETE", b"405"), ("HEAD", b"200"), ("PUT", b"405"), ("TRACE", b"405")):
+        for method, answered in (("DELETE", b"405"), ("HEAD", b"200"), ("PUT", b"405"), ("TRACE", b"405")):
             request = f"{method} /health HTTP/1.1\r\nHost: 127.0.0.1:{self.seen.port}\r\n\r\n".encode()
-            self.assertEqual(talk(self.seen.port, request).split(b" ")[1], status, method)
+            self.assertEqual(talk(self.seen.port, request).split(b" ")[1], answered, method)
         self.assertEqual(self.seen.number(), 102)
 
     def test_others_references_and_fields(self) -> None:
-        others: list[dict[str, str]] = [{"ref": "SCR-BERT-1"}, {"ref": "X" * 41}, {"kind": "drop"}, {"f7": "1"}]
-        others += [
-            {"ref": "SCR-ANNA-B-1"},
-            {"ref": "SCR-ANNA-"},
-            {"ref": "SCR-ANNA-" + "X" * 32},
-        ]  # ANNA-B is somebody else
+        others = [{"ref": ref} for ref in ("SCR-BERT-1", "X" * 41, "SCR-ANNA-B-1", "SCR-ANNA-", "SCR-ANNA-" + "X" * 32)]
+        others += [{"kind": "drop"}, {"f7": "1"}]  # ANNA-B is somebody else
         for change in others:
             self.assertEqual(self.seen.post({**LIGHTHOUSE, "ref": "SCR-ANNA-1", **change})[0], 422, change)
         for body in (b"", b"[1]", b"{", b'{"kind":1}', b"\xff\xfe", b"[" * 16_000):
             status, _ = self.seen.call("/api/command", body, {"Content-Type": "application/json"})
             self.assertEqual(status, 422, body[:20])
         self.assertEqual(self.seen.post({"kind": "switch", "ref": "SCR-ANNA-1", "f1": "X" * 20_000})[0], 413)
-        self.assertEqual(
-            self.seen.post({"kind": "mark", "ref": "SCR-ANNA-1", "f1": "2025-03-25", "f2": "BERT"})[0], 422
-        )
+        mark = {"kind": "mark", "ref": "SCR-ANNA-1", "f1": "2025-03-25", "f2": "BERT"}
+        self.assertEqual(self.seen.post(mark)[0], 422)
         self.assertEqual(self.seen.number(), 102)
 
     def test_bytes_that_are_no_request(self) -> None:
         chance = random.Random(3)
-        host = f"Host: 127.0.0.1:{self.seen.port}\r\n".encode()
-        texts = [b"\r\n\r\n", b"GET\r\n\r\n", b"\x16\x03\x01\x02\x00\x01\r\n\r\n", b"GET / HTTP/9.9\r\n\r\n"]
-        texts += [bytes(chance.randrange(256) for _ in range(300)) + b"\r\n\r\n" for _ in range(20)]
-        texts += [
-            b"POST /api/command HTTP/1.1\r\n" + host + b"Transfer-Encoding: chunked\r\n\r\n5\r\nhello\r\n0\r\n\r\n"
-        ]
-        texts += [b"POST /api/command HTTP/1.1\r\n" + host + b"Content-Length: x\r\n\r\n"]
-        texts += [b"POST /api/import HTTP/1.1\r\n" + host + b"Content-Length: 99999999\r\n\r\n"]
-        texts += [b"GET / HTTP/1.1\r\n" + host + b"X: " + b"y" * 20_000 + b"\r\n\r\n"]
-        texts += [
-            b"GET / HTTP/1.1\r\n" + host + b"X: y" + fold + b"z: 1\r\n\r\n" for fold in (b"\r\n ", b"\r\n\t", b"\n ")
-        ]
-        texts += [b"GET / HTTP/1.1\r\n" + host + b"A: b\r\n" * 4_000 + b"\r\n"]
-        texts += [
-            b"GET /../../etc/passwd HTTP/1.1\r\n" + host + b"\r\n",
-            b"GET /static/..%2fscreen HTTP/1.1\r\n" + host + b"\r\n",
-        ]
+        host = f" HTTP/1.1\r\nHost: 127.0.0.1:{self.seen.port}\r\n".encode()
+        texts = [b"", b"GET", b"\x16\x03\x01\x02\x00\x01", b"GET / HTTP/9.9"]
+        texts += [bytes(chance.randrange(256) for _ in range(300)) for _ in range(20)]
+        texts += [b"POST /api/command" + host + b"Transfer-Encoding: chunked\r\n\r\n5\r\nhello\r\n0"]
+        texts += [b"POST /api/command" + host + b"Content-Length: x"]
+        texts += [b"POST /api/import" + host + b"Content-Length: 99999999"]
+        texts += [b"GET /" + host + b"X: " + b"y" * 20_000, b"GET /" + host + b"A: b\r\n" * 4_000]
+        texts += [b"GET /" + host + b"X: y" + fold + b"z: 1" for fold in (b"\r\n ", b"\r\n\t", b"\n ")]
+        texts += [b"GET " + place + host[:-2] for place in (b"/../../etc/passwd", b"/static/..%2fscreen")]
         for text in texts:
-            reply = talk(self.seen.port, text)
+            reply = talk(self.seen.port, text + b"\r\n\r\n")
             self.assertTrue(reply == b"" or reply.split(b" ")[1][:1] in (b"4", b"5"), (text[:60], reply[:60]))
         self.assertEqual(self.seen.call("/health")[1]["desk"], "here")
 
     def test_a_thousand_connections_that_say_nothing(self) -> None:
         """They are closed without a word, half a head is told why, and meanwhile a command is answered at once."""
-        screen = self.screen("--head-seconds", "3")
-        screen.log_in("ANNA")
+        screen = self.screen("--head-seconds", "3", login="ANNA")
         silent = [socket.create_connection(("127.0.0.1", screen.port), timeout=30) for _ in range(1_000)]
         half = socket.create_connection(("127.0.0.1", screen.port), timeout=30)
         half.sendall(b"GET / HTTP/1.1\r\nHo")
@@ -484,29 +444,24 @@ class Hostile(support.Case):
     def test_bodies_that_stop_half_way(self) -> None:
         """A body that stops is told so within the limit, also one that goes on too slowly, and one whose sender goes away
         ends its connection. The desk hears of none of them."""
-        desk = self.desk()
-        between = support.Between(desk.port)
-        self.addCleanup(between.end)
-        url = f"http://127.0.0.1:{between.port}"
-        screen = self.screen("--desk", url, "--body-seconds", "2", book=desk.book)
+        desk, proxy, screen = self.between("--body-seconds", "2")
         screen.log_in("ANNA")
         command = json.dumps({**LIGHTHOUSE, "ref": "SCR-ANNA-1"}).encode()
         rows = (support.FORTNIGHT_FILES / "corrections.csv").read_bytes()
         begun = time.monotonic()
-        stopped: list[socket.socket] = []
-        gone: list[socket.socket] = []
-        slow: list[socket.socket] = []
-        for route, kind, body in (("command", "application/json", command), ("import", "text/csv", rows)):
-            slow.append(begin_post(screen, f"/api/{route}", kind, body, 1))
-            for length in (0, 1, len(body) // 2, len(body) - 1):
-                for among in (stopped, gone):
-                    among.append(begin_post(screen, f"/api/{route}", kind, body, length))
+        bodies = (("command", "application/json", command), ("import", "text/csv", rows))
+
+        def begin_all(*parts: float) -> list[socket.socket]:
+            return [begin_post(screen, *told, part) for told in bodies for part in parts]
+
+        slow, stopped, gone = begin_all(0.01), begin_all(0, 0.01, 0.5, 1), begin_all(0, 0.01, 0.5, 1)
         for connection in gone:
             connection.shutdown(socket.SHUT_WR)
         while time.monotonic() - begun < 3.0:
             time.sleep(0.2)
             for connection in slow:
-                send_where_open(connection, b" ")
+                with suppress(OSError):  # where it is closed already
+                    connection.sendall(b" ")
         for connection in gone:
             self.assertEqual(connection.recv(1_000), b"")
         for connection in stopped:
@@ -514,10 +469,10 @@ class Hostile(support.Case):
         self.assertLess(time.monotonic() - begun, 10)
         for connection in (*stopped, *gone, *slow):
             connection.close()
-        self.assertEqual((between.posts, screen.number()), (0, 102))
+        self.assertEqual((proxy.posts, screen.number()), (0, 102))
         self.assertEqual(support.call(f"{desk.url}/commands/103")[0], 404)
         self.assertEqual(screen.post({**LIGHTHOUSE, "ref": "SCR-ANNA-1"})[0], 200)
-        self.assertEqual((between.posts, screen.number()), (1, 103))
+        self.assertEqual((proxy.posts, screen.number()), (1, 103))
 
     def test_a_reply_that_nobody_reads(self) -> None:
         """A connection whose other end takes nothing is closed in time, however much waits for it."""

@@ -16,38 +16,41 @@ from server.state import Refused
 ZONE = reader.Zone(support.FORTNIGHT[2])
 
 
-class Shift(unittest.TestCase):
+class Shift(support.Case):
     """One desk, a screen of its own, two people and another program."""
 
-    desk: support.Desk
-    screen: support.Screen
+    ours: support.Desk
 
     @classmethod
     def setUpClass(cls) -> None:
-        cls.desk = support.Desk(support.small(cls.__name__))
-        cls.addClassCleanup(cls.desk.kill)
-        cls.screen = support.Screen(cls.desk.book, desk=cls.desk)
-        cls.addClassCleanup(cls.screen.end)
+        cls.ours = support.Desk(support.small(cls.__name__))
+        cls.addClassCleanup(cls.ours.kill)
+        cls.share(cls.ours.book, desk=cls.ours)
 
     def send(self, login: str, **command: str) -> Any:
         """Sends a command as somebody: what the page is told."""
-        self.screen.log_in(login)
-        return self.screen.send(**command)
+        self.live.log_in(login)
+        return self.live.send(**command)
 
     def switch(self, login: str, position: str, device: str = "LBS-1", ago: int = 5) -> Any:
-        self.screen.log_in(login)
-        return self.screen.switch(position, device, second=int(time.time()) - ago, crew=login)
+        self.live.log_in(login)
+        return self.live.switch(position, device, second=int(time.time()) - ago, crew=login)
 
     def get(self, route: str, **query: str) -> Any:
-        status, shown = self.screen.call(f"{route}?{urllib.parse.urlencode(query)}")
+        status, shown = self.live.call(f"{route}?{urllib.parse.urlencode(query)}")
         self.assertEqual(status, 200, shown)
         return shown
+
+    def entry(self, number: int) -> dict[str, Any]:
+        """What an entry says."""
+        found = self.live.call(f"/api/entries/{number}")[1]
+        return {name: found[name] for name in ("device", "second", "cause", "crew", "action")}
 
     def test_the_log_by_time_and_by_whom(self) -> None:
         opened = self.switch("LOG-1", "open")
         self.switch("LOG-2", "close")
         refused = {"kind": "switch", "f1": "LBS-1", "f2": "open", "f3": "1", "f4": "1", "f5": "LOG-2"}
-        self.assertEqual(self.screen.post({**refused, "ref": "SCR-LOG-2-A"})[0], 422)
+        self.assertEqual(self.live.post({**refused, "ref": "SCR-LOG-2-A"})[0], 422)
         one, other = self.get("/api/log", name="log-1"), self.get("/api/log", name="log-2")
         self.assertEqual([row["login"] for row in one], ["LOG-1"])
         self.assertEqual([row["outcome"] for row in other], ["refused", "saved"])
@@ -63,19 +66,18 @@ class Shift(unittest.TestCase):
         self.assertEqual(self.get("/api/log", since="2001-01-01", until="2001-12-31 06:00"), [])
         wrong = ("since=never", "since=2026-99-99", "since=0001-01-01", "until=2560", "since=today&until=yesterday")
         for query in wrong:
-            self.assertEqual(self.screen.call(f"/api/log?{query}")[0], 422, query)
+            self.assertEqual(self.live.call(f"/api/log?{query}")[0], 422, query)
 
     def test_what_changed_since_a_time(self) -> None:
         """Entries that were made or changed, as they are now, with what was done and by whom: also by another program."""
         since = str(int(time.time()))
         mine = self.switch("NEW-1", "open")["entry"]
-        self.send(
-            "NEW-2", kind="correct", f1=str(mine), f2="1", f3="open", f4=str(int(time.time()) - 9), f5="2", f6="X"
-        )
+        at = str(int(time.time()) - 9)
+        self.send("NEW-2", kind="correct", f1=str(mine), f2="1", f3="open", f4=at, f5="2", f6="X")
         fields = {"f1": "LBS-1", "f2": "close", "f3": str(int(time.time()) - 2), "f4": "1", "f5": "OMS"}
-        self.desk.post({"kind": "switch", "ref": "OMS-77", **fields})
-        number = self.screen.number() + 1
-        support.until(lambda: self.screen.number() == number, what="the command of the other program")
+        self.ours.post({"kind": "switch", "ref": "OMS-77", **fields})
+        number = self.live.number() + 1
+        support.until(lambda: self.live.number() == number, what="the command of the other program")
         support.until(lambda: self.get("/api/log")[0]["kind"] == "elsewhere", what="its line of the log")
         shown = self.get("/api/changes", since=since)
         done = {row["no"]: [(each["what"], each["by"]) for each in row["done"]] for row in shown["entered"]}
@@ -96,14 +98,12 @@ class Shift(unittest.TestCase):
         self.assertEqual(found[0]["customers"], {1: 1, 2: 3}[len(found[0]["sections"])])
 
     def test_marked_days_and_who_marked_them(self) -> None:
-        first, second = self.screen.call("/api/book")[1]["days"][:2]
+        first, second = self.live.call("/api/book")[1]["days"][:2]
         self.send("MARK-1", kind="mark", f1=first, f2="MARK-1")
-        self.desk.post({"kind": "mark", "ref": "OMS-MARK", "f1": second, "f2": "ENGINEER"})
+        self.ours.post({"kind": "mark", "ref": "OMS-MARK", "f1": second, "f2": "ENGINEER"})
         rows = support.until(lambda: (rows := self.get("/api/marks")) and len(rows) == 2 and rows, what="both marks")
-        self.assertEqual(
-            [(row["day"], row["engineer"], row["login"]) for row in rows],
-            [(first, "MARK-1", "MARK-1"), (second, "ENGINEER", "")],
-        )
+        marked = [(row["day"], row["engineer"], row["login"]) for row in rows]
+        self.assertEqual(marked, [(first, "MARK-1", "MARK-1"), (second, "ENGINEER", "")])
         self.assertLess(abs(rows[0]["at"]["second"] - time.time()), 60)
         self.assertIsNone(rows[1]["at"])
 
@@ -111,27 +111,21 @@ class Shift(unittest.TestCase):
         """A switching is withdrawn, a correction corrected back, a withdrawal entered again, a mark taken away."""
         shown = self.switch("BACK", "open")
         entry = shown["entry"]
-        before = self.screen.call(f"/api/entries/{entry}")[1]
+        before = self.entry(entry)
         second = str(before["second"]["second"] - 60)
         corrected = self.send("BACK", kind="correct", f1=str(entry), f2="1", f3="open", f4=second, f5="2", f6="Y")
         self.assertEqual(corrected["undo"]["command"]["f2"], "2")
         self.send("BACK", **corrected["undo"]["command"])
-        after = self.screen.call(f"/api/entries/{entry}")[1]
-        for name in ("second", "cause", "crew", "action"):
-            self.assertEqual(after[name], before[name], name)
+        self.assertEqual(self.entry(entry), before)
         self.assertEqual(shown["undo"]["command"], {"kind": "withdraw", "f1": str(entry), "f2": "1"})
         self.assertIn(f"withdraw entry {entry}", shown["undo"]["words"])
         withdrawn = self.send("BACK", kind="withdraw", f1=str(entry), f2="3")
         self.assertEqual(withdrawn["undo"]["command"]["kind"], "switch")
         again = self.send("BACK", **withdrawn["undo"]["command"])
-        anew = self.screen.call(f"/api/entries/{again['entry']}")[1]
-        self.assertEqual(
-            [anew[name] for name in ("device", "second", "cause", "crew")],
-            [before[name] for name in ("device", "second", "cause", "crew")],
-        )
+        self.assertEqual(self.entry(again["entry"]), before)
         forecast = self.get("/api/forecast", **again["undo"]["command"])
         self.assertEqual(self.send("BACK", **again["undo"]["command"])["reply"]["moved"], forecast["moved"])
-        day = self.screen.call("/api/book")[1]["days"][5]
+        day = self.live.call("/api/book")[1]["days"][5]
         marked = self.send("BACK", kind="mark", f1=day, f2="BACK")
         self.assertEqual(self.send("BACK", **marked["undo"]["command"])["undo"]["command"]["kind"], "mark")
         life = self.send("BACK", kind="life", f1="LBS-1", f2="0", f3=str(int(time.time()) + 9_000))
@@ -152,44 +146,38 @@ class Shift(unittest.TestCase):
             ("feeder=x", "home feeder x"),
             ("crew=%C3%84", "crew Ä can't be read"),
         ):
-            status, shown = self.screen.call(f"/api/sheet?{query}")
+            status, shown = self.live.call(f"/api/sheet?{query}")
             self.assertEqual(status, 422, query)
             self.assertIn(words, shown["words"])
 
 
-class Pages(unittest.TestCase):
+class Pages(support.Case):
     """The same on the pages, in a browser."""
 
     page: browser.Browser
-    screen: support.Screen
 
     @classmethod
     def setUpClass(cls) -> None:
-        cls.screen = support.Screen(support.small(cls.__name__))
-        cls.addClassCleanup(cls.screen.end)
+        cls.share(support.small(cls.__name__))
         cls.page = browser.Browser()
         cls.addClassCleanup(cls.page.end)
-        cls.screen.log_in("BERT")
         for position in ("open", "close"):
-            cls.screen.switch(position, "LBS-1", second=int(time.time()) - 60)
+            cls.live.switch(position, "LBS-1", second=int(time.time()) - 60)
 
     def test_a_search_is_kept_by_the_address(self) -> None:
         """By loading the page again, by Back, and by a link to somebody else."""
-        page, url = self.page, self.screen.url
+        page, url = self.page, self.live.url
         page.open(f"{url}/sheet?feeder=1&device=LBS&order=second")
         page.says("main", "2 of 2 entries")
-        self.assertEqual(page.field("Device").get_attribute("value"), "LBS")
-        self.assertEqual(page.field("Feeder").get_attribute("value"), "1")
+        self.assertEqual(page.value("Device"), "LBS")
+        self.assertEqual(page.value("Feeder"), "1")
         page.fill("Crew", "NOBODY")
         page.says("main", "No entries for device LBS, crew NOBODY, feeder 1.")
         self.assertIn("crew=NOBODY", page.driver.current_url)
-        page.driver.refresh()
-        page.ready()
+        page.reload()
         page.says("main", "No entries for device LBS, crew NOBODY, feeder 1.")
-        page.driver.get(f"{url}/year")
-        page.ready()
-        page.driver.back()
-        page.ready()
+        page.go(f"{url}/year")
+        page.back()
         page.says("main", "No entries for device LBS, crew NOBODY, feeder 1.")
         page.click(".clear")
         page.says("main", "2 of 2 entries")
@@ -198,40 +186,37 @@ class Pages(unittest.TestCase):
         page.says("main", "No entries for day yesterday.")
 
     def test_the_log_and_the_hand_over(self) -> None:
-        page, url = self.page, self.screen.url
+        page, url = self.page, self.live.url
         page.open(f"{url}/sheet")
         page.click('section[aria-label="The screen\'s log"] summary')
         page.says('section[aria-label="The screen\'s log"]', "LBS-1 close at ")
         page.fill("By", "nobody")
         page.says('section[aria-label="The screen\'s log"]', "Nothing was sent.")
         self.assertIn("name=nobody", page.find("main a[href^='/shift']").get_attribute("href"))
-        self.screen.switch("open", "CB-1")
-        self.addCleanup(self.screen.switch, "close", "CB-1")
+        self.live.switch("open", "CB-1")
+        self.addCleanup(self.live.switch, "close", "CB-1")
         for width in (1_280, 390):
             page.resize(width, 900)
             page.open(f"{url}/shift?name=bert&since=today")
             said = page.says("main", "entered at")
-            self.assertEqual(page.driver.execute_script("return document.documentElement.scrollWidth"), width)
+            self.assertEqual(page.probe("tooWide"), [])
             for words in (
                 "sent by bert",
                 "Open outages: 1, of 2 sections and 3 customers",
                 "CB-1",
                 "entry 3",
                 "by BERT",
-                "Marked days",
             ):
                 self.assertIn(words, said)
+            self.assertIn("Marked days", said)
         page.resize(1_280, 900)
-        self.screen.switch("close", "CB-1")
+        self.live.switch("close", "CB-1")
         page.says("main", "All sections are supplied.")
         page.fill("Since", '<i>"')
         page.says("main", "Not shown as asked")
-        page.driver.refresh()
-        page.ready()
+        page.reload()
         page.says("main", "Not shown as asked")
-        self.assertEqual(
-            [page.field(name).get_attribute("value") for name in ("Since", "Until", "Sent by")], ['<i>"', "", "bert"]
-        )
+        self.assertEqual([page.value(name) for name in ("Since", "Until", "Sent by")], ['<i>"', "", "bert"])
         self.assertEqual(page.all("main i"), [])
         self.assertEqual(page.complaints(), [])
 
@@ -244,14 +229,8 @@ class Stops(support.Case):
         screen.log_in("ANNA")
         screen.switch("open", "LBS-1", second=int(time.time()) - 50)
         screen.end()
-        closed = {
-            "kind": "switch",
-            "f1": "LBS-1",
-            "f2": "close",
-            "f3": str(int(time.time()) - 5),
-            "f4": "1",
-            "f5": "ANNA",
-        }
+        closed = {"kind": "switch", "f1": "LBS-1", "f2": "close", "f4": "1", "f5": "ANNA"}
+        closed["f3"] = str(int(time.time()) - 5)
         self.assertEqual(desk.post({**closed, "ref": "OMS-1"})[0], 200)
         again = self.screen(desk=desk)
         rows = again.call("/api/log")[1]
