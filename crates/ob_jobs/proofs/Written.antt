@@ -9,7 +9,8 @@ use Rattle.ob_base.specs.declared.stop.Fault.{Fault as AFault}
 use Rattle.ob_base.specs.declared.stop.Fault.TheVariants.{OutOfMemory, Store, Reopen, Input, Output}
 use Rattle.ob_base.specs.declared.stop.Stop.{Stop}
 use Rattle.ob_base.specs.declared.stop.Stop.TheVariants.{Refused, Fault}
-use Rattle.ob_stream.specs.Streams.{AppendsFront}
+use Rattle.ob_stream.specs.Retrying.{Tries, TriesAll}
+use Rattle.ob_stream.specs.Streams.{AppendsFront, retries_left}
 use Rattle.ob_stream.specs.Watching.{HasJustFailed, watched_bytes}
 use Rattle.ob_stream.specs.declared.watched.Watched.{Watched}
 use Rattle.ob_state.specs.State.{BookState}
@@ -21,6 +22,13 @@ use Rattle.ob_store.specs.MovingOut.{IsBookAfterMoves, Numbered, Takes, TakesAll
 use Rattle.ob_jobs.specs.declared.lines.Lines.{Lines}
 use Rattle.ob_jobs.specs.Text.{lines_of, moved_line}
 use Rattle.ob_jobs.specs.Exporting.{AppendsPart, PutsLine, Exports}
+use Rattle.ob_stream.proofs.Trying.{all_then, all_then_all, none_tried}
+
+-- one text after another, with the same retries
+pub tries_then : {D A E : Type 0} {had mid : ℕ} {old now : Watched D} (left : ℕ) (new : Watched D) (r : Result A E) → TriesAll had mid old now
+    → Tries mid left now new r → Tries had left old new r
+tries_then left new (Ok x) before t = all_then_all before t
+tries_then left new (Err e) before t = all_then before t
 
 pub nothing : (bytes : Option (List ℕ)) → Appends bytes bytes []
 nothing None = tt
@@ -55,7 +63,9 @@ front_part was is head text it = record {
 module _ {W : Type 0} (contents : W → Option (List ℕ)) where
   abbrev pub puts : Takes (Lines W)
   puts old cmd m result new =
-      (new.writer.ghost_name ≡ old.writer.ghost_name) × PutsLine contents old.writer.now new.writer.now (moved_line cmd m) result
+      (new.writer.ghost_name ≡ old.writer.ghost_name)
+      × PutsLine contents old.writer.now new.writer.now (moved_line cmd m) result
+      × Tries (retries_left old.retries) (retries_left new.retries) old.writer.now new.writer.now result
 
   abbrev bytes_of : Lines W → Option (List ℕ)
   bytes_of v = watched_bytes contents v.writer.now
@@ -81,6 +91,26 @@ module _ {W : Type 0} (contents : W → Option (List ℕ)) where
   -- a take that tells of the output left it failed
   pub has_failed : (was is : Lines W) → HandsOver puts was is (Err (Fault Output)) → HasJustFailed is.writer.now
   has_failed was is h = elim h.3 [ inl failed ↦ failed.1.1.1 | inr store ↦ absurd (no_store_fault Output (λ e. absurd cc) (λ e. absurd cc) store.1) ]
+
+  -- ---- the retries
+  all_tried : (old new : Lines W) (xs : List Numbered) → TakesAll puts old xs new
+      → TriesAll (retries_left old.retries) (retries_left new.retries) old.writer.now new.writer.now
+  all_tried old new [] is =
+      subst (λ (v : Lines W). TriesAll (retries_left old.retries) (retries_left v.retries) old.writer.now v.writer.now) (sym is)
+      (none_tried (retries_left old.retries) old.writer.now)
+  all_tried old new (x ∷ xs) h = all_then_all h.1.2 (all_tried h.0 new xs h.2)
+
+  -- each interrupted write was tried again, or the last one was not since no retry was left
+  pub tries_after : (was is : Lines W) (r : Result ℕ Stop) → HandsOver puts was is r
+      → Tries (retries_left was.retries) (retries_left is.retries) was.writer.now is.writer.now r
+  tries_after was is (Ok n) h = all_tried was is h.0 h.1
+  tries_after was is (Err (Refused refusal)) h = absurd h
+  tries_after was is (Err (Fault fault)) h = elim h.3 [
+    | inl failed ↦ all_then (all_tried was h.1 h.0 h.2) failed.1.2
+    | inr store ↦
+        inl (subst (λ (v : Lines W). TriesAll (retries_left was.retries) (retries_left v.retries) was.writer.now v.writer.now) (sym store.0)
+        (all_tried was h.1 h.0 h.2))
+  ]
 
   -- ---- the book
   -- a sink that takes amounts keeps the book, or tells of memory or of the output

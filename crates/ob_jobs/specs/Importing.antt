@@ -5,6 +5,7 @@ use Rattle.ob_base.specs.declared.stop.Stop.{Stop}
 use Rattle.ob_base.specs.declared.stop.Stop.TheVariants.{Refused, Fault}
 use Rattle.ob_base.specs.declared.stop.Fault.{Fault as AFault}
 use Rattle.ob_base.specs.declared.stop.Fault.TheVariants as faults
+use Rattle.ob_stream.specs.Retrying.{TriesAnew}
 use Rattle.ob_stream.specs.Watching.{HasJustFailed, watched_bytes}
 use Rattle.ob_stream.specs.declared.watched.Watched.{Watched}
 use Rattle.ob_store.specs.Calls.{CommitsNothing, IfHeld, WasClean}
@@ -60,6 +61,8 @@ module _ {S : Type 0} (g : Ghosts S) where
     pub clean : WasClean g old new
     pub survives : CommitsNothing g old new
     pub exports : IfHeld g old new (λ b. Exports contents g old new (watched_bytes contents was) is b (moves_text b) done)
+    -- interrupted writes were tried again, with 65,536 retries in all
+    pub tries : TriesAnew was is done
 
   -- the export of a job, and what is told of it
   abbrev pub TellsExport : {F W : Type 0} → (F → Option (List ℕ)) → (W → Option (List ℕ)) → KeeperValue S → KeeperValue S

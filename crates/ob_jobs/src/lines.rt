@@ -1,5 +1,7 @@
 //! A sink that writes a line for each change of an amount.
 ghost use Rattle.std.specs.Prelude.{◌≡◌};
+ghost use Rattle.ob_stream.specs.Retrying.{Tries};
+ghost use Rattle.ob_stream.specs.Streams.{retries_left};
 ghost use Rattle.ob_jobs.specs.Text.{moved_line};
 ghost use Rattle.ob_jobs.specs.Exporting.{PutsLine};
 
@@ -19,7 +21,9 @@ fn put_line<W: Write>(
     cmd: u32,
     m: &Moved,
 ) -> Result<(), Fault>
-    ensures { PutsLine W.contents writer.old writer.new (moved_line cmd m.now) result }
+    ensures puts { PutsLine W.contents writer.old writer.new (moved_line cmd m.now) result }
+    ensures tries { Tries (retries_left retries.old) (retries_left retries.new) writer.old
+        writer.new result }
 {
     match line_of(alloc, cmd, m) {
         Ok(line) => write_text(writer, retries, &line),
@@ -40,6 +44,7 @@ impl<'w, W: Write> Lines<'w, W> {
     pub(crate) fn new(alloc: Global, writer: &'w mut Watched<W>, retries: Retries) -> Lines<'w, W>
         ensures same_reference { result.writer.ghost_name ≡ writer.entry.ghost_name }
         ensures writer { result.writer.now ≡ writer.old }
+        ensures retries { result.retries ≡ retries }
     {
         Lines {
             alloc,
@@ -51,7 +56,9 @@ impl<'w, W: Write> Lines<'w, W> {
 
 impl<'w, W: Write> MoveSink for Lines<'w, W> {
     ghost takes = { λ old cmd m result new. (new.writer.ghost_name ≡ old.writer.ghost_name)
-        × PutsLine W.contents old.writer.now new.writer.now (moved_line cmd m) result };
+        × PutsLine W.contents old.writer.now new.writer.now (moved_line cmd m) result
+        × Tries (retries_left old.retries) (retries_left new.retries) old.writer.now new.writer.now
+        result };
 
     fn take(&mut self, cmd: u32, m: &Moved) -> Result<(), Fault> {
         put_line(self.alloc, self.writer, &mut self.retries, cmd, m)

@@ -1,5 +1,7 @@
 //! Exports the changes of amounts that accepted commands made.
-ghost use Rattle.std.specs.Prelude.{◌≡◌, ◌≢◌, ◌↔◌, None, Err, IsSome, IfErr, OnOk};
+ghost use Rattle.std.specs.Prelude.{◌≡◌, ◌≢◌, ◌↔◌, ℕ, None, Err, IsSome, IfErr, OnOk};
+ghost use Rattle.ob_stream.specs.Retrying.{Tries, TriesAnew};
+ghost use Rattle.ob_stream.specs.Streams.{retries_left};
 ghost use Rattle.ob_stream.specs.Watching.{HasJustFailed, watched_bytes};
 ghost use Rattle.ob_store.specs.Calls.{CommitsNothing, IfHeld, IfStored, WasClean};
 ghost use Rattle.ob_store.specs.Keeping.{IsBookAfter};
@@ -33,6 +35,7 @@ fn write_lines<W: Write, S: Alter, T: Timeline>(
     ensures exports { IfStored S.Store keeper.old keeper.new
         (λ b. Exports W.contents S.Store keeper.old keeper.new
         (watched_bytes W.contents writer.old) writer.new b (lines_of (all_moves b)) result) }
+    ensures tries { (left : ℕ) × Tries (retries_left retries) left writer.old writer.new result }
 {
     let mut lines = Lines::new(alloc, writer, retries);
     keeper.moves_out(&mut lines)
@@ -42,7 +45,7 @@ fn write_lines<W: Write, S: Alter, T: Timeline>(
 /// a line for each change, by number, dimension and key, as `26,cause,3,-1200`. Returns the number
 /// of changes. `Fault::Reopen` if there is no book, and then nothing is written; `Fault::Output` if
 /// the writer fails. After a fault of the store the keeper has no book; otherwise it has the book
-/// that it had.
+/// that it had. Interrupted writes are repeated, 65,536 times in all.
 pub fn export_moves<W: Write, S: Alter, T: Timeline>(
     alloc: Global,
     keeper: &mut Keeper<S, T>,
@@ -59,6 +62,8 @@ pub fn export_moves<W: Write, S: Alter, T: Timeline>(
     ensures exports { IfHeld S.Store keeper.old keeper.new
         (λ b. Exports W.contents S.Store keeper.old keeper.new
         (watched_bytes W.contents writer.old) writer.new b (moves_text b) result) }
+    // interrupted writes are tried again, 65,536 times in all
+    ensures tries { TriesAnew writer.old writer.new result }
 {
     if keeper.book().is_none() {
         return Err(Stop::Fault(Fault::Reopen));

@@ -12,4 +12,5 @@ returns g c =
       clean = all.clean;
       survives = all.survives;
       exports = all.exports;
+      tries = all.tries;
     }

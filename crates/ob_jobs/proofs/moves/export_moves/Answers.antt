@@ -1,11 +1,14 @@
-use Rattle.std.proofs.Common.{Err, refl, sym, subst}
+use Rattle.std.proofs.Common.{Err, inl, refl, sym, subst}
 use Rattle.ob_base.specs.declared.stop.Stop.TheVariants.{Fault}
+use Rattle.ob_stream.specs.Retrying.{TriesAll, TriesOrGivesUp}
+use Rattle.ob_stream.specs.Streams.{retries_left}
 use Rattle.ob_stream.specs.Watching.{watched_bytes}
+use Rattle.ob_stream.proofs.Trying.{none_tried}
 use Rattle.ob_store.specs.Keeping.{IsBookAfter}
 use Rattle.ob_store.specs.MovingOut.{all_moves}
 use Rattle.ob_jobs.specs.Text.{header, lines_of, moves_text}
 use Rattle.ob_jobs.specs.Exporting.{Exports}
-use Rattle.ob_jobs.proofs.Written.{front_part, headed}
+use Rattle.ob_jobs.proofs.Written.{front_part, headed, tries_then}
 use Rattle.ob_jobs.proofs.moves.export_moves.Goals as goal
 
 pub returns-in-Ok-clause-exports : goal.returns-in-Ok-clause-exports
@@ -27,3 +30,18 @@ pub returns-in-Err-clause-dropped : goal.returns-in-Err-clause-dropped
 returns-in-Err-clause-dropped g c =
     let book = c.args.keeper.now.book in
     subst (λ f. IsBookAfter book book (Fault f)) (sym c.in-Err.ensures.fault.0) refl
+
+pub returns-in-Ok-clause-tries : goal.returns-in-Ok-clause-tries
+returns-in-Ok-clause-tries g c =
+    let it = c.write_lines.ensures.tries in
+    let mid = c.write_text.new.writer in
+    let headed = subst (λ n. TriesAll n (retries_left c.write_text.new.retries) c.args.writer.now mid) c.new-retries.ensures c.in-Ok.ensures.tries in
+    (it.0, tries_then it.0 c.write_lines.new.writer c.write_lines.result headed it.1)
+
+pub returns-in-Err-clause-tries : goal.returns-in-Err-clause-tries
+returns-in-Err-clause-tries g c =
+    let left = retries_left c.write_text.new.retries in
+    (left, subst (λ n. TriesOrGivesUp n left c.args.writer.now c.write_text.new.writer) c.new-retries.ensures c.in-Err.ensures.tries)
+
+pub returns-then-is_none-clause-tries : goal.returns-then-is_none-clause-tries
+returns-then-is_none-clause-tries g c = (65536, inl (none_tried 65536 c.args.writer.now))

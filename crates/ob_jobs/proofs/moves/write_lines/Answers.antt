@@ -1,9 +1,11 @@
 use Rattle.std.proofs.Common.{◌≡◌, subst, subst₂, rules}
+use Rattle.ob_stream.specs.Retrying.{Tries}
+use Rattle.ob_stream.specs.Streams.{retries_left}
 use Rattle.ob_stream.specs.Watching.{HasJustFailed, watched_bytes}
 use Rattle.ob_store.specs.MovingOut.{HandsOver, all_moves}
 use Rattle.ob_jobs.specs.Text.{lines_of}
 use Rattle.ob_jobs.specs.Exporting.{Exports}
-use Rattle.ob_jobs.proofs.Written.{book_after, book_kept, exported, has_failed, name_after, puts}
+use Rattle.ob_jobs.proofs.Written.{book_after, book_kept, exported, has_failed, name_after, puts, tries_after}
 use Rattle.ob_jobs.proofs.moves.write_lines.Goals as goal
 
 pub returns-clause-output : goal.returns-clause-output
@@ -33,3 +35,17 @@ returns-clause-kept g c =
 pub returns-clause-dropped : goal.returns-clause-dropped
 returns-clause-dropped g c =
     book_after g.W.Write.contents c.moves_out.new.sink c.args.keeper.now.book c.moves_out.new.self.book c.moves_out.result (c.moves_out.ensures.dropped c.requires)
+
+pub returns-clause-tries : goal.returns-clause-tries
+returns-clause-tries g c =
+    let was = c.new-lines.result in
+    let end = c.moves_out.new.sink in
+    let done = c.moves_out.result in
+    let handed = c.moves_out.ensures.sink c.requires in
+    let name = name_after g.W.Write.contents was end done handed in
+    let same : end.writer.now ≡ c.writer-1.given.0 = search rules in
+    let tries = tries_after g.W.Write.contents was end done handed in (
+      retries_left end.retries,
+      subst (λ r. Tries (retries_left r) (retries_left end.retries) c.args.writer.now c.writer-1.given.0 done) c.new-lines.ensures.retries
+          (subst₂ (λ v w. Tries (retries_left was.retries) (retries_left end.retries) v w done) c.new-lines.ensures.writer same tries),
+    )
