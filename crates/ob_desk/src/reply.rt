@@ -1,5 +1,7 @@
 //! Replies to one request, or to bytes that are no request.
 ghost use Rattle.std.specs.Prelude.{◌≡◌, Err, IfErr, OnOk};
+ghost use Rattle.ob_stream.specs.Retrying.{Tries};
+ghost use Rattle.ob_stream.specs.Streams.{retries_left};
 ghost use Rattle.ob_stream.specs.Watching.{watched_bytes};
 ghost use Rattle.ob_http_requests.specs.Reading.{message_of};
 ghost use Rattle.ob_store.specs.Calls.{TellsFaults};
@@ -50,6 +52,8 @@ pub(crate) fn reply_to<W: Write, S: Alter, T: Timeline>(
     ensures cause { IfErr result (HasAnswerCause S.Store writer.new keeper.old) }
     ensures kept { IsKept S.Store keeper.old keeper.new (fault_of result) }
     ensures tells { TellsFaults S.Store keeper.old keeper.new (result ≡ Err Fault.Store) }
+    ensures tries { Tries (retries_left retries.old) (retries_left retries.new) writer.old
+        writer.new result }
 {
     match answer(alloc, routes, keeper, request, ends) {
         Ok(text) => write_text(writer, retries, text.bytes()),

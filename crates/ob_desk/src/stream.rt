@@ -1,5 +1,6 @@
 //! Serves one stream.
 ghost use Rattle.std.specs.Prelude.{◌≡◌, ◌↔◌, [], None, Err, IsSome, IfErr, IfOk};
+ghost use Rattle.ob_stream.specs.Retrying.{BothTryAnew};
 ghost use Rattle.ob_stream.specs.Watching.{watched_bytes};
 ghost use Rattle.ob_store.specs.Calls.{TellsFaults, WasClean};
 ghost use Rattle.ob_http_requests.specs.Unread.{unread};
@@ -59,6 +60,8 @@ pub fn serve_stream<R: Read, W: Write, S: Alter, T: Timeline>(
     // no fault of the store is forgotten, row numbers and the step limit stay, and a store fault has
     // a cause
     ensures tells { TellsFaults S.Store keeper.old keeper.new (result ≡ Err Fault.Store) }
+    // interrupted reads and writes are tried again, 65,536 times in all
+    ensures tries { BothTryAnew reader.old reader.new writer.old writer.new result }
 {
     let Ok(routes) = Routes::new(alloc) else {
         return Err(Fault::OutOfMemory);
@@ -85,6 +88,7 @@ fn serve_requests<R: Read, W: Write, S: Alter, T: Timeline>(
         (watched_bytes W.contents writer.new) reader.new writer.new keeper.old keeper.new) }
     ensures kept { IsKept S.Store keeper.old keeper.new (fault_of result) }
     ensures tells { TellsFaults S.Store keeper.old keeper.new (result ≡ Err Fault.Store) }
+    ensures tries { BothTryAnew reader.old reader.new writer.old writer.new result }
 {
     let mut retries = Retries::new();
     let mut allowed = MOST_REQUESTS;

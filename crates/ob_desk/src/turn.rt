@@ -1,5 +1,7 @@
 //! One turn of a stream: reads a request and answers it, or ends the stream.
 ghost use Rattle.std.specs.Prelude.{◌≡◌, Err, IfErr, IfOk};
+ghost use Rattle.ob_stream.specs.Retrying.{BothTry};
+ghost use Rattle.ob_stream.specs.Streams.{retries_left};
 ghost use Rattle.ob_stream.specs.Watching.{watched_bytes};
 ghost use Rattle.ob_store.specs.Calls.{TellsFaults};
 ghost use Rattle.ob_http_requests.specs.Reading.{message_of};
@@ -61,6 +63,8 @@ pub(crate) fn serve_turn<R: Read, W: Write, S: Alter, T: Timeline>(
         (watched_bytes W.contents writer.new) reader.new writer.new keeper.old keeper.new) }
     ensures kept { IsKept S.Store keeper.old keeper.new (fault_of result) }
     ensures tells { TellsFaults S.Store keeper.old keeper.new (result ≡ Err Fault.Store) }
+    ensures tries { BothTry (retries_left retries.old) (retries_left retries.new) reader.old
+        reader.new writer.old writer.new result }
 {
     match read_request(alloc, reader, writer, retries, ahead)? {
         Next::End => Ok(Turn::Closed),

@@ -2,6 +2,7 @@ use Rattle.std.proofs.Common.{Ok}
 use Rattle.ob_http_requests.specs.Reading.{message_of}
 use Rattle.ob_http_replies.specs.declared.reply.MediaType.TheVariants.{Json}
 use Rattle.ob_store.proofs.Faults.{tells_as}
+use Rattle.ob_stream.proofs.Trying.{tries_any}
 use Rattle.ob_desk.proofs.FaultLemmas.{same-err, written-no-store}
 use Rattle.ob_desk.proofs.AnswerLemmas.{answer-cause, as-written, unanswered, written-answered, written-cause, written-less}
 use Rattle.ob_desk.proofs.StandLemmas.{kept-by, still-some}
@@ -43,3 +44,9 @@ returns-in-Ok-clause-tells g c =
 
 pub returns-in-Err-clause-tells : goal.returns-in-Err-clause-tells
 returns-in-Err-clause-tells g c = tells_as g.S.Store c.args.keeper.now c.answer.new.keeper _ _ (same-err c.in-Err.fault) c.in-Err.ensures.tells
+
+pub returns-in-Ok-clause-tries : goal.returns-in-Ok-clause-tries
+returns-in-Ok-clause-tries g c = c.write_text.ensures.tries
+
+pub returns-in-Err-clause-tries : goal.returns-in-Err-clause-tries
+returns-in-Err-clause-tries g c = tries_any c.write_text-in-Err.result c.write_text-in-Err.ensures.tries

@@ -1,6 +1,9 @@
-use Rattle.std.proofs.Common.{None, arith, refl}
+use Rattle.std.proofs.Common.{None, arith, refl, subst, sym}
 use Rattle.std.proofs.lemmas.Result.{err_from_is_err_and}
 use Rattle.ob_store.proofs.Faults.{tells_nothing}
+use Rattle.ob_stream.specs.Retrying.{BothTryAll}
+use Rattle.ob_stream.specs.Streams.{retries_left}
+use Rattle.ob_stream.proofs.Trying.{both_none, both_then, both_then_all}
 use Rattle.ob_desk.proofs.FaultLemmas.{ok-no-store, run-tells, same-err}
 use Rattle.ob_desk.proofs.RunLemmas.{run-closed, run-ended, run-fails, run-goes, run-refused, run-starts}
 use Rattle.ob_desk.proofs.StandLemmas.{kept-none, kept-then}
@@ -13,6 +16,8 @@ requests-init g c = record {
   some = omega arith;
   most = omega arith;
   tells = tells_nothing g.S.Store c.args.keeper.now c.args.keeper.now ⊥ refl (λ e. e);
+  tries = subst (λ n. BothTryAll 65536 n c.args.reader.now c.args.reader.now c.args.writer.now c.args.writer.now) (sym c.new-retries.ensures)
+      (both_none 65536 c.args.reader.now c.args.writer.now);
 }
 
 pub returns-in_err-serve_turn-clause-fails : goal.returns-in_err-serve_turn-clause-fails
@@ -47,6 +52,7 @@ requests-preserved g c =
       most = omega (arith, c.requests.invariant.most);
       tells = run-tells g.S.Store _ _ _ _ c.args.keeper.now c.requests.keeper c.serve_turn.new.keeper c.requests.allowed _ ⊥ (λ e. absurd e) c.requests.invariant.run c.requests.invariant.tells
           c.in_ok-serve_turn.ensures.tells;
+      tries = both_then_all c.requests.invariant.tries c.in_ok-serve_turn.ensures.tries;
     }
 
 pub returns-in-Closed-clause-tells : goal.returns-in-Closed-clause-tells
@@ -70,3 +76,17 @@ returns-in_err-serve_turn-clause-tells g c =
     rw (p.1, p.2)
     (run-tells g.S.Store _ _ _ _ c.args.keeper.now c.requests.keeper c.serve_turn.new.keeper c.requests.allowed _ _ (same-err c.in_err-serve_turn.field-0.0) c.requests.invariant.run
     c.requests.invariant.tells c.in_err-serve_turn.ensures.tells)
+
+pub returns-in-Closed-clause-tries : goal.returns-in-Closed-clause-tries
+returns-in-Closed-clause-tries g c = (retries_left c.serve_turn.new.retries, both_then_all c.requests.invariant.tries c.in_ok-serve_turn.ensures.tries)
+
+pub returns-in-Refused-clause-tries : goal.returns-in-Refused-clause-tries
+returns-in-Refused-clause-tries g c = (retries_left c.serve_turn.new.retries, both_then_all c.requests.invariant.tries c.in_ok-serve_turn.ensures.tries)
+
+pub returns-then-ends-clause-tries : goal.returns-then-ends-clause-tries
+returns-then-ends-clause-tries g c = (retries_left c.serve_turn.new.retries, both_then_all c.requests.invariant.tries c.in_ok-serve_turn.ensures.tries)
+
+pub returns-in_err-serve_turn-clause-tries : goal.returns-in_err-serve_turn-clause-tries
+returns-in_err-serve_turn-clause-tries g c =
+    let p = err_from_is_err_and c.from_residual.result c.from_residual.ensures.1 in
+    rw p.1 (retries_left c.serve_turn.new.retries, both_then c.requests.invariant.tries c.in_err-serve_turn.ensures.tries)

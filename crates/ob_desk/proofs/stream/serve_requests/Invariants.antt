@@ -1,5 +1,7 @@
 -- The requests so far were answered, and after none of them the stream ends.
 use Rattle.std.proofs.Common.{◌≤◌, None}
+use Rattle.ob_stream.specs.Retrying.{BothTryAll}
+use Rattle.ob_stream.specs.Streams.{retries_left}
 use Rattle.ob_stream.specs.Watching.{watched_bytes}
 use Rattle.ob_store.specs.Calls.{TellsFaults}
 use Rattle.ob_http_requests.specs.Unread.{unread}
@@ -15,6 +17,7 @@ invariant-requests g l = record {
   some : 1 ≤ l.allowed;
   most : l.allowed ≤ 1000;
   tells : TellsFaults g.S.Store l.fn.keeper l.keeper ⊥;
+  tries : BothTryAll 65536 (retries_left l.retries) l.fn.reader l.reader l.fn.writer l.writer;
 }
 
 abbrev pub decreases-requests : goal.decreases-requests

@@ -1,8 +1,9 @@
-use Rattle.std.proofs.Common.{None, refl}
+use Rattle.std.proofs.Common.{None, inl, refl}
 use Rattle.std.proofs.lemmas.Result.{err_from_is_err_and}
 use Rattle.ob_http_replies.specs.declared.reply.MediaType.TheVariants.{Json}
 use Rattle.ob_http_requests.specs.Reading.{message_of}
 use Rattle.ob_store.proofs.Faults.{tells_as, tells_nothing}
+use Rattle.ob_stream.proofs.Trying.{both_then, both_then_all, by_writer, by_writer_or}
 use Rattle.ob_desk.proofs.FaultLemmas.{input-no-store, ok-no-store, output-no-loss, same-err, unread-no-store}
 use Rattle.ob_desk.proofs.TurnLemmas.{turn-answered, turn-cut, turn-stops, turn-unanswered, turn-unrefused}
 use Rattle.ob_desk.proofs.turn.serve_turn.Goals as goal
@@ -71,3 +72,32 @@ returns-in_err-reply_to-in-Request-clause-tells g c =
 pub returns-in_ok-reply_to-in-Request-clause-tells : goal.returns-in_ok-reply_to-in-Request-clause-tells
 returns-in_ok-reply_to-in-Request-clause-tells g c =
     tells_as g.S.Store c.args.keeper.now c.reply_to.new.keeper _ _ (λ e. absurd (ok-no-store _ e)) c.in_ok-reply_to-in-Request.ensures.tells
+
+pub returns-in_err-read_request-clause-tries : goal.returns-in_err-read_request-clause-tries
+returns-in_err-read_request-clause-tries g c =
+    let p = err_from_is_err_and c.from_residual.result c.from_residual.ensures.1 in
+    rw p.1 c.in_err-read_request.ensures.tries
+
+pub returns-in-End-clause-tries : goal.returns-in-End-clause-tries
+returns-in-End-clause-tries g c = c.in_ok-read_request.ensures.tries
+
+pub returns-in-Cut-clause-tries : goal.returns-in-Cut-clause-tries
+returns-in-Cut-clause-tries g c = inl c.in_ok-read_request.ensures.tries
+
+pub returns-in_err-write_text-in-Refused-clause-tries : goal.returns-in_err-write_text-in-Refused-clause-tries
+returns-in_err-write_text-in-Refused-clause-tries g c =
+    let p = err_from_is_err_and c.from_residual-in_err-write_text-in-Refused.result c.from_residual-in_err-write_text-in-Refused.ensures.1 in
+    rw p.1 (both_then c.in_ok-read_request.ensures.tries (by_writer_or c.read_request.new.reader c.in_err-write_text-in-Refused.ensures.tries))
+
+pub returns-in_ok-write_text-in-Refused-clause-tries : goal.returns-in_ok-write_text-in-Refused-clause-tries
+returns-in_ok-write_text-in-Refused-clause-tries g c =
+    both_then_all c.in_ok-read_request.ensures.tries (by_writer c.read_request.new.reader c.in_ok-write_text-in-Refused.ensures.tries)
+
+pub returns-in_err-reply_to-in-Request-clause-tries : goal.returns-in_err-reply_to-in-Request-clause-tries
+returns-in_err-reply_to-in-Request-clause-tries g c =
+    let p = err_from_is_err_and c.from_residual-in_err-reply_to-in-Request.result c.from_residual-in_err-reply_to-in-Request.ensures.1 in
+    rw p.1 (both_then c.in_ok-read_request.ensures.tries (by_writer_or c.read_request.new.reader c.in_err-reply_to-in-Request.ensures.tries))
+
+pub returns-in_ok-reply_to-in-Request-clause-tries : goal.returns-in_ok-reply_to-in-Request-clause-tries
+returns-in_ok-reply_to-in-Request-clause-tries g c =
+    both_then_all c.in_ok-read_request.ensures.tries (by_writer c.read_request.new.reader c.in_ok-reply_to-in-Request.ensures.tries)
