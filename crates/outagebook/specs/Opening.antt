@@ -5,8 +5,12 @@ use Rattle.ob_base.specs.declared.stop.Stop.TheVariants.{Fault}
 use Rattle.ob_base.specs.declared.stop.Fault.TheVariants.{OutOfMemory, Store}
 use Rattle.ob_store.specs.Keepers.{KeeperValue}
 
+-- why no file was opened: memory was refused, or the store failed
+abbrev pub OpensNothing : Stop → Type 0
+OpensNothing stop = (stop ≡ Fault OutOfMemory) ⊎ (stop ≡ Fault Store)
+
 -- a keeper that has no book yet, over a connection whose queries may take any number of steps; or memory was refused, or the file
 -- isn't there or can't be opened
 abbrev pub OpensFile : {S : Type 0} → Result (KeeperValue S) Stop → Type 0
 OpensFile (Ok keeper) = (keeper.book ≡ None) × (keeper.conn.step_limit ≡ None)
-OpensFile (Err stop) = (stop ≡ Fault OutOfMemory) ⊎ (stop ≡ Fault Store)
+OpensFile (Err stop) = OpensNothing stop

@@ -2,6 +2,7 @@
 use Rattle.std.specs.Prelude.{◌≡◌, ◌≢◌, ◌⊎◌, ⊤, ℕ, List, Option, Result, Ok, Err, IfOk, IfErr}
 use Rattle.ob_base.specs.declared.stop.Fault.TheVariants.{Output}
 use Rattle.ob_base.specs.declared.stop.Stop.TheVariants.{Fault}
+use Rattle.ob_stream.specs.Retrying.{BothTryAnew}
 use Rattle.ob_stream.specs.Streams.{Passes}
 use Rattle.ob_stream.specs.Watching.{HasJustFailed, watched_bytes}
 use Rattle.ob_stream.specs.declared.watched.Watched.{Watched}
@@ -27,6 +28,7 @@ module _ {R W : Type 0} (remaining : R → Option (List ℕ)) (contents : W → 
         → BeginsLine (watched_bytes remaining was) (watched_bytes contents before) (watched_bytes contents after))
     pub length : SpeaksOfText done → IsWithin (watched_bytes remaining was) 268_435_456
     pub cause : IfErr done (λ e. HasCause e.stop (HasJustFailed is ⊎ Passes (watched_bytes remaining was) 268_435_456) (HasJustFailed after))
+    pub tries : BothTryAnew was is before after done
 
   -- the same, of how the job ends
   abbrev pub PrintsTotal : Watched R → Watched R → Watched W → Watched W → Result ⊤ Unfinished → Type 0

@@ -2,8 +2,10 @@
 //!
 //! `FileKeeper` is a large type, and a function that holds one is proved with all of its parts. So
 //! only one function opens and closes the file, and the jobs are functions over any keeper.
+ghost use Rattle.std.specs.Prelude.{◌≡◌, ◌↔◌};
+ghost use Rattle.ob_base.specs.Stop.{out_of_memory};
 ghost use Rattle.ob_jobs.specs.Tasks.{RunsTask};
-ghost use Rattle.outagebook.specs.Opening.{OpensFile};
+ghost use Rattle.outagebook.specs.Opening.{OpensFile, OpensNothing};
 
 use crate::desk::Server;
 use crate::period::begin;
@@ -81,10 +83,19 @@ fn keeper_of(rt: &HostRuntime, book: &Word) -> Result<FileKeeper, Stop>
 {
     match Connection::open_from(rt, book.as_str(), false, Unknown) {
         Ok(conn) => Ok(Keeper::adopt_connection(rt.alloc(), conn)),
-        Err((Error::SqliteFailure(ErrorCode::OutOfMemory), _)) => {
-            Err(Stop::Fault(Fault::OutOfMemory))
-        }
-        Err(_) => Err(Stop::Fault(Fault::Store)),
+        Err((error, _)) => Err(stop_of_open(error)),
+    }
+}
+
+/// Returns why a file wasn't opened: memory was refused, or else it is a fault of the store.
+fn stop_of_open(error: Error) -> Stop
+    ensures memory { (result ≡ out_of_memory)
+        ↔ (error ≡ Error.SqliteFailure ErrorCode.OutOfMemory) }
+    ensures faults { OpensNothing result }
+{
+    match error {
+        Error::SqliteFailure(ErrorCode::OutOfMemory) => Stop::Fault(Fault::OutOfMemory),
+        _ => Stop::Fault(Fault::Store),
     }
 }
 
