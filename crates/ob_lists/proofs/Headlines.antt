@@ -1,5 +1,5 @@
 -- What is shown after a list of calls is the headline of a book to which these may have led.
-use Rattle.std.proofs.Common.{◌≡◌, ◌∙◌, inl, inr, ap, sym, subst, refl, ℕ, true, false, ◌↔◌, ◌++◌, List, [], ◌∷◌, append-nil, true≢false, Contains, Option, Some, None, Result, Ok, Err, IfOk, IfErr, IfSome, if◌then◌else◌}
+use Rattle.std.proofs.Common.{◌≡◌, ◌⊎◌, ◌∙◌, inl, inr, ap, sym, subst, refl, ℕ, true, false, ◌↔◌, ◌++◌, List, [], ◌∷◌, append-nil, true≢false, Contains, Option, Some, None, Result, Ok, Err, IfOk, IfErr, IfSome, if◌then◌else◌}
 use Rattle.std.specs.Prelude.{⊤, IsNone}
 use Rattle.ob_base.specs.Stop.{out_of_memory}
 use Rattle.ob_base.specs.declared.stop.Stop.{Stop}
@@ -90,3 +90,9 @@ pub goes_from : {S R : Type 0} (g : Ghosts S) (h : Ghosts R) (b : ActState) (tol
     → Stands h (MayBe b []) first → Goes h g told first old → IsClean g old → Stands g (MayBe b told) old
 goes_from g h b told first old begun goes clean =
     subst (λ (all : List Told). Stands g (MayBe b all) old) (append-nil told) (goes.stands clean b [] begun)
+
+-- where what is shown after a load is lacking, memory was refused
+pub without_memory : {X : Type 0} {Stops : Stop → Type 0} (r : Result X Stop) → IfErr r (λ stop. stop ≡ out_of_memory)
+    → IfErr r (λ stop. Stops stop ⊎ (stop ≡ out_of_memory))
+without_memory (Ok x) none = tt
+without_memory (Err stop) none = inr none

@@ -4,7 +4,7 @@ ghost use Rattle.ob_stream.specs.Watching.{watched_bytes};
 ghost use Rattle.ob_csv.specs.Rows.{rows_of};
 ghost use Rattle.ob_book.specs.Acts.{ActState};
 ghost use Rattle.ob_store.specs.Acting.{Acted, under};
-ghost use Rattle.ob_store.specs.Calls.{HasCreationCause, IfStoredOld, LeavesCurrentTables, MigratesOldTables, MigratesStoredBook, MigrationAnswers, OnOldTables, OnTables, ReadAnswers};
+ghost use Rattle.ob_store.specs.Calls.{HasCreationCause, IfStoredOld, LeavesCurrentTables, MigratesOldTables, MigratesStoredBook, MigrationAnswers, OnOldTables, OnTables, ReadAnswers, StoreFailed};
 ghost use Rattle.ob_store.specs.Crashing.{Loads};
 ghost use Rattle.ob_store.specs.Creating.{Created};
 ghost use Rattle.ob_store.specs.Keepers.{IsClean, StoresNumbers};
@@ -17,6 +17,7 @@ ghost use Rattle.ob_desk.specs.Listening.{ServesStreams, has_failed, streams_lef
 ghost use Rattle.ob_desk.specs.Serving.{Fails, Serves};
 ghost use Rattle.ob_lists.specs.Standing.{MayBe, Stands, Told, served, told_by, told_by_import, told_by_stream};
 ghost use Rattle.ob_lists.specs.Going.{ActsForCause, AuditsOne, Goes, LoadsOne, OfOne, PlansOne, RefusesOne, TellsOverList};
+ghost use Rattle.ob_base.specs.declared.stop.Fault.{Fault as AFault};
 ghost use Rattle.ob_base.specs.declared.stop.Refusal.{Refusal as ARefusal};
 
 use ob_base::{Fault, Ref, Stop};
@@ -93,9 +94,12 @@ pub fn reply_of<S: Alter, T: Timeline>(
     no: u32,
 ) -> Result<Option<Reply>, Stop>
     ensures goes { Goes S.Store S.Store [] keeper.old keeper.new }
+    // and where the store is reported to have failed, it has
     ensures replies { IsClean S.Store keeper.new → (b : ActState) (told : List Told)
         → Stands S.Store (MayBe b told) keeper.old → OfOne (MayBe b told) keeper.old result
-        (λ x. Replied S.Store keeper.old keeper.new x no result) }
+        (λ x. Replied S.Store keeper.old keeper.new x no result
+        × IfErr result (λ stop. stop ≡ Stop.Fault Fault.Store
+        → StoreFailed S.Store keeper.old keeper.new)) }
 {
     keeper.reply_of(no)
 }
@@ -113,6 +117,8 @@ pub fn plan<S: Alter, T: Timeline>(
         → (why : ARefusal) → result ≡ Err (Stop.Refused why)
         → RefusesOne (MayBe b told) command.now why }
     ensures reopen { (keeper.old.book ≡ None) ↔ (result ≡ Err (Stop.Fault Fault.Reopen)) }
+    ensures err { IsSome keeper.old.book → (fault : AFault) → result ≡ Err (Stop.Fault fault)
+        → fault ≡ Fault.OutOfMemory }
 {
     keeper.plan(command)
 }

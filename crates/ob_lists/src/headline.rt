@@ -1,7 +1,8 @@
 //! What is shown of a book after any list of calls.
-ghost use Rattle.std.specs.Prelude.{◌≡◌, ◌↔◌, [], List, IsNone, IfOk, IfErr, IfSome};
+ghost use Rattle.std.specs.Prelude.{◌≡◌, ◌↔◌, ◌⊎◌, [], List, Err, IsNone, IfOk, IfErr, IfSome};
 ghost use Rattle.ob_base.specs.Stop.{out_of_memory};
 ghost use Rattle.ob_book.specs.Acts.{ActState};
+ghost use Rattle.ob_store.specs.Crashing.{Loads};
 ghost use Rattle.ob_store.specs.Keepers.{IsClean, KeeperValue};
 ghost use Rattle.ob_headline.specs.Headline.{HasNoAmount};
 ghost use Rattle.ob_lists.specs.Standing.{MayBe, Stands, Told};
@@ -56,6 +57,10 @@ pub fn load_and_show<R: Alter, S: Alter, T: Timeline>(
         (first : KeeperValue R) → Stands R.Store (MayBe b []) first
         → Goes R.Store S.Store told first keeper.old
         → LoadsAndShows S.Store b told keeper.new dim key which result }
+    ensures goes { Goes S.Store S.Store [] keeper.old keeper.new }
+    // the load stopped so, for a cause as it states it, or memory was refused after it
+    ensures stops { IfErr result (λ stop. Loads S.Store keeper.old keeper.new (Err stop)
+        ⊎ (stop ≡ out_of_memory)) }
 {
     next_law();
     told_law();

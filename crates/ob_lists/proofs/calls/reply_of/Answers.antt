@@ -12,4 +12,4 @@ returns-clause-goes g c = record {
 pub returns-clause-replies : goal.returns-clause-replies
 returns-clause-replies g c =
     λ clean b told stands. of_one g.S.Store c.args.keeper.now c.reply_of.new.self (MayBe b told) c.reply_of.result c.reply_of.ensures.reopen.0
-    (λ x ties some. c.reply_of.ensures.replied clean x ties some) stands
+    (λ x ties some. (c.reply_of.ensures.replied clean x ties some, c.reply_of.ensures.cause clean x ties some)) stands

@@ -1,4 +1,5 @@
-use Rattle.ob_lists.proofs.Headlines.{goes_from, loaded_shows, stopped_shows}
+use Rattle.std.proofs.Common.{inl}
+use Rattle.ob_lists.proofs.Headlines.{goes_from, loaded_shows, stopped_shows, without_memory}
 use Rattle.ob_lists.proofs.headline.load_and_show.Goals as goal
 
 pub returns-in-Ok-clause-shows : goal.returns-in-Ok-clause-shows
@@ -20,3 +21,15 @@ pub returns-in-Err-clause-after : goal.returns-in-Err-clause-after
 returns-in-Err-clause-after g c =
     λ clean b told first begun goes. returns-in-Err-clause-shows g c clean b told
     (goes_from g.S.Store g.R.Store b told first c.args.keeper.now begun goes (c.in-Err.ensures.goes.clean clean))
+
+pub returns-in-Ok-clause-goes : goal.returns-in-Ok-clause-goes
+returns-in-Ok-clause-goes g c = c.in-Ok.ensures.goes
+
+pub returns-in-Ok-clause-stops : goal.returns-in-Ok-clause-stops
+returns-in-Ok-clause-stops g c = without_memory c.shown.result c.shown.ensures.err
+
+pub returns-in-Err-clause-goes : goal.returns-in-Err-clause-goes
+returns-in-Err-clause-goes g c = c.in-Err.ensures.goes
+
+pub returns-in-Err-clause-stops : goal.returns-in-Err-clause-stops
+returns-in-Err-clause-stops g c = inl c.in-Err.ensures.load
