@@ -103,4 +103,4 @@ module _ {S : Type 0} (g : Ghosts S) (few : ReachedAreFew) (old new : KeeperValu
         let was = old_book g old new Is it in
         let live = answers.live clean tt in
         told_old g old new Is (Option Table) r (states_old g old was.0 was.2 was_clean live) it (outdated clean (shows_old g old was.0 was.2 was_clean live))
-    audits_one (Err (Fault f)) answers stops audited outdated stands = load_fault g old new Is f stops
+    audits_one (Err (Fault f)) answers stops audited outdated stands = load_fault g old new Is f stops was_clean clean answers stands

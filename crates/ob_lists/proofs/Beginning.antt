@@ -13,6 +13,7 @@ use Rattle.ob_store.specs.Creating.{Created}
 use Rattle.ob_store.specs.Keepers.{Ghosts, HoldsNothing, IsClean, KeeperValue, Stores}
 use Rattle.ob_store.proofs.Restarting.{Settles, begun_after, nothing_after, stored_after}
 use Rattle.ob_lists.specs.Going.{Begun, Finds, Restarts}
+use Rattle.ob_lists.specs.Standing.{Stands}
 use Rattle.ob_lists.proofs.Restarting.{none}
 use Rattle.ob_lists.proofs.Standings.{finds, loads_one}
 
@@ -21,8 +22,9 @@ module _ {S R : Type 0} (g : Ghosts S) (h : Ghosts R) (settles : Settles g) (set
   -- a book that the store keeps after the crash
   finds_kept : (p : Calendar) → Stores h next (start p) → Finds h (λ x. x ≡ start p) new found
   finds_kept p keeps =
-      finds h (λ x. x ≡ start p) next new found (loads_one h next new (λ x. x ≡ start p) law found loads clean
-      (inl (record { book = start p; is = refl; ties = record { kept = keeps; book = none g h settles_new made next it (start p) } })))
+      let stands : Stands h (λ x. x ≡ start p) next =
+      inl (record { book = start p; is = refl; ties = record { kept = keeps; book = none g h settles_new made next it (start p) } }) in
+      finds h (λ x. x ≡ start p) next new found stands loads (loads_one h next new (λ x. x ≡ start p) law found loads clean stands)
 
   finds_none : LeftAll g old made → IsErr found
   finds_none left = nothing_after g h settles settles_new old made next new held it.opens found loads clean left

@@ -13,9 +13,8 @@ use Rattle.ob_store.specs.Keepers.{Ghosts, IsClean, KeeperValue, Ties}
 use Rattle.ob_headline.specs.Headline.{HasNoAmount, IsHeadline}
 use Rattle.ob_headline.specs.declared.figures.Shown.{Shown}
 use Rattle.ob_lists.specs.Standing.{MayBe, Stands, Told}
-use Rattle.ob_lists.specs.Going.{Finds, Goes, LoadsOne, ToldLaw}
+use Rattle.ob_lists.specs.Going.{Goes, LoadsOne, ToldLaw}
 use Rattle.ob_lists.specs.Headline.{IsShownAfter, LoadsAndShows}
-use Rattle.ob_lists.proofs.Standings.{finds}
 use Rattle.ob_lists.proofs.Telling.{goes_on}
 
 -- commands leave the period as it is
@@ -65,25 +64,22 @@ module _ {S : Type 0} (g : Ghosts S) (stays : PeriodStays) (holds : ToldLaw) (b 
   shows (Ok (Some s)) headline none (inr (inr (inr it))) = not_shown s it.lost none
 
   -- the book that a load found
-  found_shows : (result : Result (Option Shown) Stop) (x : ActState) → MayBe b told x → Ties g k x → k.book ≡ Some x.book
+  found_shows : (old : KeeperValue S) (result : Result (Option Shown) Stop) (x : ActState) → MayBe b told x → Ties g k x → k.book ≡ Some x.book
       → ((y : ActState) → Ties g k y → IfOk result (λ s. IfSome s (IsHeadline y dim key which)))
       → IfOk result (λ s. IsNone s ↔ HasNoAmount k.book dim key) → IfErr result (λ stop. stop ≡ out_of_memory)
-      → LoadsAndShows g b told k dim key which result
-  found_shows (Ok (Some s)) x may ties has headline none fault = of_one x may ties s (headline x ties)
-  found_shows (Ok None) x may ties has headline none fault =
+      → LoadsAndShows g b told k dim key which old result
+  found_shows old (Ok (Some s)) x may ties has headline none fault = of_one x may ties s (headline x ties)
+  found_shows old (Ok None) x may ties has headline none fault =
       subst (λ (q : Calendar). ¬ (IsKey (day_count q) dim key)) (may_be_of_period stays b told x may)
       (subst (λ (o : Option BookState). HasNoAmount o dim key) has (none.0 refl))
-  found_shows (Err stop) x may ties has headline none fault =
-      subst (λ (s : Stop). Finds g (MayBe b told) k (Err s)) (sym fault) tt
+  found_shows old (Err stop) x may ties has headline none fault =
+      subst (λ (s : Stop). LoadsOne g (MayBe b told) old k (Err s)) (sym fault) tt
 
   pub loaded_shows : (result : Result (Option Shown) Stop)
       → ((y : ActState) → Ties g k y → IfOk result (λ s. IfSome s (IsHeadline y dim key which)))
       → IfOk result (λ s. IsNone s ↔ HasNoAmount k.book dim key) → IfErr result (λ stop. stop ≡ out_of_memory)
-      → (old : KeeperValue S) (done : ⊤) → LoadsOne g (MayBe b told) old k (Ok done) → LoadsAndShows g b told k dim key which result
-  loaded_shows result headline none fault old done found = found_shows result found.0 found.1 found.2 found.3 headline none fault
-
-  pub stopped_shows : (old : KeeperValue S) (stop : Stop) → LoadsOne g (MayBe b told) old k (Err stop) → LoadsAndShows g b told k dim key which (Err stop)
-  stopped_shows old stop found = finds g (MayBe b told) old k (Err stop) found
+      → (old : KeeperValue S) (done : ⊤) → LoadsOne g (MayBe b told) old k (Ok done) → LoadsAndShows g b told k dim key which old result
+  loaded_shows result headline none fault old done found = found_shows old result found.0 found.1 found.2 found.3 headline none fault
 
 -- a list of calls that began with a new book
 pub goes_from : {S R : Type 0} (g : Ghosts S) (h : Ghosts R) (b : ActState) (told : List Told) (first : KeeperValue R) (old : KeeperValue S)

@@ -16,7 +16,8 @@ use Rattle.ob_book.specs.Forecasts.{forecast_text_of}
 use Rattle.ob_sql_rows.specs.declared.table.Table.{Table}
 use Rattle.ob_import.specs.Imports.{Says}
 use Rattle.ob_import.specs.Reports.{AreRows}
-use Rattle.ob_store.specs.Calls.{ForgetsNoFault, HasCommandCause, HasWorkCause, OpensAfter}
+use Rattle.ob_store.specs.Calls.{ForgetsNoFault, HasCommandCause, HasWorkCause, OpensAfter, StoreFailed}
+use Rattle.ob_store.specs.Crashing.{Loads}
 use Rattle.ob_store.specs.Keepers.{Ghosts, IsClean, KeeperValue, StoresNumbers, Ties}
 use Rattle.ob_http_requests.specs.Message.{Message}
 use Rattle.ob_lists.specs.Importing.{Ended, body_of, counted}
@@ -59,13 +60,14 @@ abbrev pub OfOne : {S X : Type 0} → (ActState → Type 0) → KeeperValue S �
 OfOne Is old result Answers = ((old.book ≡ None) × (result ≡ Err (Fault Reopen))) ⊎ ((x : ActState) × Is x × Answers x)
 
 module _ {S : Type 0} (g : Ghosts S) where
-  -- a load finds one of these books, or tells that it is of version 1; or memory was refused, or the store failed
+  -- a load finds one of these books, or tells that it is of version 1, which it then is; or memory was refused, or the store failed,
+  -- for a cause
   abbrev pub LoadsOne : (ActState → Type 0) → KeeperValue S → KeeperValue S → Result ⊤ Stop → Type 0
   LoadsOne Is old new (Ok done) = (b : ActState) × Is b × Ties g new b × (new.book ≡ Some b.book)
   LoadsOne Is old new (Err (Refused (OldVersion version))) = (version ≡ 1) × (KeptOld g Is old ⊎ InUpgrade g Is old)
   LoadsOne Is old new (Err (Refused refusal)) = ⊥
   LoadsOne Is old new (Err (Fault OutOfMemory)) = ⊤
-  LoadsOne Is old new (Err (Fault Store)) = ⊤
+  LoadsOne Is old new (Err (Fault Store)) = StoreFailed g old new
   LoadsOne Is old new (Err (Fault fault)) = ⊥
 
   -- an audit finds no table that differs from those of one of these books; or it stops as a load may
@@ -73,14 +75,12 @@ module _ {S : Type 0} (g : Ghosts S) where
   AuditsOne Is old new (Ok found) = found ≡ None
   AuditsOne Is old new (Err stop) = LoadsOne Is old new (Err stop)
 
-  -- what the load finds that is the last of some calls
-  abbrev pub Finds : (ActState → Type 0) → KeeperValue S → Result ⊤ Stop → Type 0
-  Finds Is new (Ok done) = (b : ActState) × Is b × Ties g new b × (new.book ≡ Some b.book)
-  Finds Is new (Err (Refused (OldVersion version))) = version ≡ 1
-  Finds Is new (Err (Refused refusal)) = ⊥
-  Finds Is new (Err (Fault OutOfMemory)) = ⊤
-  Finds Is new (Err (Fault Store)) = ⊤
-  Finds Is new (Err (Fault fault)) = ⊥
+  -- what the load finds that is the last of some calls: the store of the keeper before it had one of these books
+  pub record Finds (Is : ActState → Type 0) (new : KeeperValue S) (result : Result ⊤ Stop) : Type 0 where
+    pub before : KeeperValue S
+    pub stands : Stands g Is before
+    pub loads : Loads g before new result
+    pub one : LoadsOne Is before new result
 
   -- what a load finds where a book of a period was to be made in a database that held nothing: that book where it was made, that
   -- or none where the store failed, and else none

@@ -10,7 +10,7 @@ use Rattle.ob_store.specs.Keepers.{Ghosts, KeeperValue, Ties}
 use Rattle.ob_headline.specs.Headline.{IsHeadline}
 use Rattle.ob_headline.specs.declared.figures.Shown.{Shown}
 use Rattle.ob_lists.specs.Standing.{MayBe, Told, acknowledged}
-use Rattle.ob_lists.specs.Going.{Finds, Holds}
+use Rattle.ob_lists.specs.Going.{Holds, LoadsOne}
 
 module _ {S : Type 0} (g : Ghosts S) (b : ActState) (told : List Told) (k : KeeperValue S) (dim : Dim) (key : ℕ) (which : Which) where
   -- what is shown is the headline of one book, which the keeper has and its store keeps: a book to which the calls may have led from
@@ -23,9 +23,9 @@ module _ {S : Type 0} (g : Ghosts S) (b : ActState) (told : List Told) (k : Keep
     pub has : (a : Referenced) → Contains told (acknowledged a) → Holds book a
     pub headline : IsHeadline book dim key which shown
 
-  -- The same where the book is loaded first. Nothing is shown where the period has no such key; or a load tells why, or memory was
-  -- refused.
-  abbrev pub LoadsAndShows : Result (Option Shown) Stop → Type 0
-  LoadsAndShows (Ok (Some shown)) = IsShownAfter shown
-  LoadsAndShows (Ok None) = ¬ (IsKey (day_count b.book.period) dim key)
-  LoadsAndShows (Err stop) = Finds g (MayBe b told) k (Err stop)
+  -- The same where the book is loaded first, from an earlier state of the keeper. Nothing is shown where the period has no such key; or
+  -- a load tells why, or memory was refused.
+  abbrev pub LoadsAndShows : KeeperValue S → Result (Option Shown) Stop → Type 0
+  LoadsAndShows old (Ok (Some shown)) = IsShownAfter shown
+  LoadsAndShows old (Ok None) = ¬ (IsKey (day_count b.book.period) dim key)
+  LoadsAndShows old (Err stop) = LoadsOne g (MayBe b told) old k (Err stop)

@@ -41,8 +41,8 @@ pub fn show<S: Alter, T: Timeline>(
 }
 
 /// Loads the book after any list of calls, with crashes and openings between them, and shows it. A
-/// load finds a book, unless memory is refused, the store fails or the tables are of version 1; and
-/// what is shown is the headline of that book.
+/// load finds a book, unless memory is refused, the store fails for a cause, or the tables are of
+/// version 1; and what is shown is the headline of that book.
 pub fn load_and_show<R: Alter, S: Alter, T: Timeline>(
     keeper: &mut Keeper<S, T>,
     dim: Dim,
@@ -51,12 +51,12 @@ pub fn load_and_show<R: Alter, S: Alter, T: Timeline>(
 ) -> Result<Option<Shown>, Stop>
     ensures shows { IsClean S.Store keeper.new → (b : ActState) (told : List Told)
         → Stands S.Store (MayBe b told) keeper.old
-        → LoadsAndShows S.Store b told keeper.new dim key which result }
+        → LoadsAndShows S.Store b told keeper.new dim key which keeper.old result }
     // from a keeper that had the book at first, by whatever calls, crashes and openings
     ensures after { IsClean S.Store keeper.new → (b : ActState) (told : List Told)
         (first : KeeperValue R) → Stands R.Store (MayBe b []) first
         → Goes R.Store S.Store told first keeper.old
-        → LoadsAndShows S.Store b told keeper.new dim key which result }
+        → LoadsAndShows S.Store b told keeper.new dim key which keeper.old result }
     ensures goes { Goes S.Store S.Store [] keeper.old keeper.new }
     // the load stopped so, for a cause as it states it, or memory was refused after it
     ensures stops { IfErr result (λ stop. Loads S.Store keeper.old keeper.new (Err stop)

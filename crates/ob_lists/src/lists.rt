@@ -28,7 +28,8 @@ pub trait Restart<S: Alter, R: Alter, T: Timeline> {
 }
 
 /// A command, a load, and another load: whatever the first two answered, the last finds a book that
-/// contains the command if it was acknowledged.
+/// contains the command if it was acknowledged. Here and in the lists below, the last load has a
+/// store fault only with a cause, and reports version 1 only if the tables are of it.
 pub fn act_load_load<S: Alter, T: Timeline>(
     keeper: &mut Keeper<S, T>,
     reference: Ref,

@@ -1,5 +1,5 @@
 use Rattle.std.proofs.Common.{inl}
-use Rattle.ob_lists.proofs.Headlines.{goes_from, loaded_shows, stopped_shows, without_memory}
+use Rattle.ob_lists.proofs.Headlines.{goes_from, loaded_shows, without_memory}
 use Rattle.ob_lists.proofs.headline.load_and_show.Goals as goal
 
 pub returns-in-Ok-clause-shows : goal.returns-in-Ok-clause-shows
@@ -13,9 +13,7 @@ returns-in-Ok-clause-after g c =
     (goes_from g.S.Store g.R.Store b told first c.args.keeper.now begun goes (c.in-Ok.ensures.goes.clean clean))
 
 pub returns-in-Err-clause-shows : goal.returns-in-Err-clause-shows
-returns-in-Err-clause-shows g c =
-    λ clean b told stands. stopped_shows g.S.Store c.next_law.ensures.period c.told_law.ensures.commands b told c.load.new.keeper c.args.dim c.args.key
-    c.args.which c.args.keeper.now c.in-Err.stop (c.in-Err.ensures.loads clean b told stands)
+returns-in-Err-clause-shows g c = λ clean b told stands. c.in-Err.ensures.loads clean b told stands
 
 pub returns-in-Err-clause-after : goal.returns-in-Err-clause-after
 returns-in-Err-clause-after g c =
