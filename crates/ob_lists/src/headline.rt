@@ -1,5 +1,5 @@
 //! What is shown of a book after any list of calls.
-ghost use Rattle.std.specs.Prelude.{◌≡◌, ◌↔◌, ◌⊎◌, [], List, Err, IsNone, IfOk, IfErr, IfSome};
+ghost use Rattle.std.specs.Prelude.{◌≡◌, ◌↔◌, ◌⊎◌, [], List, Err, IsNone, IsSome, IfOk, IfErr, IfSome};
 ghost use Rattle.ob_base.specs.Stop.{out_of_memory};
 ghost use Rattle.ob_book.specs.Acts.{ActState};
 ghost use Rattle.ob_store.specs.Crashing.{Loads};
@@ -58,9 +58,9 @@ pub fn load_and_show<R: Alter, S: Alter, T: Timeline>(
         → Goes R.Store S.Store told first keeper.old
         → LoadsAndShows S.Store b told keeper.new dim key which keeper.old result }
     ensures goes { Goes S.Store S.Store [] keeper.old keeper.new }
-    // the load stopped so, for a cause as it states it, or memory was refused after it
+    // the load stopped so, for a cause as it states it, or memory was refused after it gave a book
     ensures stops { IfErr result (λ stop. Loads S.Store keeper.old keeper.new (Err stop)
-        ⊎ (stop ≡ out_of_memory)) }
+        ⊎ (IsSome keeper.new.book × (stop ≡ out_of_memory))) }
 {
     next_law();
     told_law();
