@@ -3,7 +3,8 @@ ghost use Rattle.std.specs.Prelude.{◌++◌, List, Some, IsErr, OnOk};
 ghost use Rattle.ob_csv.specs.Rows.{rows_of};
 ghost use Rattle.ob_book.specs.Acts.{ActState};
 ghost use Rattle.ob_store.specs.Acting.{under};
-ghost use Rattle.ob_store.specs.Keepers.{HoldsNothing, IsClean};
+ghost use Rattle.ob_store.specs.Creating.{Created};
+ghost use Rattle.ob_store.specs.Keepers.{HoldsNothing, IsClean, KeeperValue};
 ghost use Rattle.ob_lists.specs.Standing.{MayBe, Stands, Told, told_by, told_by_import};
 ghost use Rattle.ob_lists.specs.Going.{Begun, BegunNumbered, Finds};
 
@@ -45,7 +46,8 @@ pub fn act_load_load<S: Alter, T: Timeline>(
     (sent, load(keeper))
 }
 
-/// A command, and then a new book while one exists: the second call is refused, or it fails.
+/// A command, and then a new book while one exists: the second call is refused, or it fails, as
+/// `create` states for such a period.
 pub fn act_create<S: Alter, T: Timeline>(
     keeper: &mut Keeper<S, T>,
     reference: Ref,
@@ -54,9 +56,11 @@ pub fn act_create<S: Alter, T: Timeline>(
     days: u16,
     zone: &[u8],
 ) -> (Result<Reply, Stop>, Result<(), Stop>)
-    ensures { IsClean S.Store keeper.new → (b : ActState) (told : List Told)
+    ensures stands { IsClean S.Store keeper.new → (b : ActState) (told : List Told)
         → Stands S.Store (MayBe b told) keeper.old → IsErr result.1
         × Stands S.Store (MayBe b (told_by (under reference command) result.0 ++ told)) keeper.new }
+    ensures created { (before : KeeperValue S)
+        × Created S.Store before keeper.new first.now days zone.now result.1 }
 {
     let sent = act(keeper, reference, command);
     (sent, create_again(keeper, first, days, zone))
@@ -94,9 +98,11 @@ pub fn create_act_restart_load<S: Alter, R: Alter, T: Timeline, C: Restart<S, R,
     reference: Ref,
     command: Command,
 ) -> (Result<(), Stop>, Result<Reply, Stop>, Keeper<R, T>)
-    ensures { IsClean R.Store result.2 → OnOk result.0
+    ensures begun { IsClean R.Store result.2 → OnOk result.0
         (BegunNumbered R.Store first.now days zone.now
         (told_by (under reference command) result.1) result.2) }
+    ensures created { (made : KeeperValue S)
+        × Created S.Store keeper made first.now days zone.now result.0 }
 {
     restart_law::<S, R>();
     crash_law::<S, R>();
@@ -183,9 +189,11 @@ pub fn create_import_restart_load<S: Alter, R: Alter, T: Timeline, C: Restart<S,
     Result<ImportReport, ImportFault>,
     Keeper<R, T>,
 )
-    ensures { IsClean R.Store result.2 → OnOk result.0
+    ensures begun { IsClean R.Store result.2 → OnOk result.0
         (BegunNumbered R.Store first.now days zone.now
         (told_by_import (Some (rows_of text.now)) result.1) result.2) }
+    ensures created { (made : KeeperValue S)
+        × Created S.Store keeper made first.now days zone.now result.0 }
 {
     restart_law::<S, R>();
     crash_law::<S, R>();

@@ -5,8 +5,8 @@ use Rattle.ob_lists.specs.Standing.{told_by}
 use Rattle.ob_lists.proofs.Numbering.{begun_numbered}
 use Rattle.ob_lists.proofs.lists.create_act_restart_load.Goals as goal
 
-pub returns : goal.returns
-returns g c =
+pub returns-clause-begun : goal.returns-clause-begun
+returns-clause-begun g c =
     λ clean.
     let sent = c.act-sent.new.keeper in
     let next = c.restart-next in
@@ -19,3 +19,6 @@ returns g c =
       c.load.ensures.goes.stands clean b (told ++ []) (goes.stands opened b (told ++ []) (c.act-sent.ensures.goes.stands (goes.clean opened) b [] stands)),
       c.load.ensures.numbered (numbers_after g.S.Store g.R.Store sent next.result next.ensures.opens c.crash_law.ensures (c.act-sent.ensures.numbered b [] stands numbers)),
     ))
+
+pub returns-clause-created : goal.returns-clause-created
+returns-clause-created g c = (c.create-made.new.self, c.create-made.ensures.created)
