@@ -9,9 +9,11 @@ use Rattle.ob_base.specs.declared.stop.Fault.{Fault as AFault}
 use Rattle.ob_base.specs.declared.stop.Fault.TheVariants.{OutOfMemory, Store, Reopen, Input, Output}
 use Rattle.ob_base.specs.declared.stop.Stop.{Stop}
 use Rattle.ob_base.specs.declared.stop.Stop.TheVariants.{Fault}
-use Rattle.ob_stream.specs.Streams.{AppendsFront}
+use Rattle.ob_stream.specs.Retrying.{Tries, TriesAll}
+use Rattle.ob_stream.specs.Streams.{AppendsFront, retries_left}
 use Rattle.ob_stream.specs.Watching.{HasJustFailed, watched_bytes}
 use Rattle.ob_stream.specs.declared.watched.Watched.{Watched}
+use Rattle.ob_stream.proofs.Trying.{all_then, all_then_all, none_tried}
 use Rattle.ob_state.specs.State.{BookState}
 use Rattle.ob_rows.specs.Rows.{interruption_rows}
 use Rattle.ob_rows.specs.RowText.{row_header, row_line, row_lines}
@@ -126,6 +128,7 @@ module _ {T W : Type 0} (contents : W → Option (List ℕ)) where
   gathers old row result new =
       (new.writer.ghost_name ≡ old.writer.ghost_name) × (new.text.now ≡ old.text.now)
       × GathersLine contents old.writer.now old.gathered.now.items new.writer.now new.gathered.now.items (row_line old.text.now row) result
+      × Tries (retries_left old.retries) (retries_left new.retries) old.writer.now new.writer.now result
 
   abbrev bytes_of : RowLines T W → Option (List ℕ)
   bytes_of v = watched_bytes contents v.writer.now
@@ -143,6 +146,19 @@ module _ {T W : Type 0} (contents : W → Option (List ℕ)) where
   same_book : (old new : RowLines T W) (xs : Rows) → TakesAll gathers old xs new → new.text.now ≡ old.text.now
   same_book old new [] is = ap (λ (v : RowLines T W). v.text.now) is
   same_book old new (x ∷ xs) h = same_book h.0 new xs h.2 ∙ h.1.1
+
+  -- each interrupted write was tried again, or the last one was not since no retry was left
+  all_tried : (old new : RowLines T W) (xs : Rows) → TakesAll gathers old xs new
+      → TriesAll (retries_left old.retries) (retries_left new.retries) old.writer.now new.writer.now
+  all_tried old new [] is =
+      subst (λ (v : RowLines T W). TriesAll (retries_left old.retries) (retries_left v.retries) old.writer.now v.writer.now) (sym is)
+      (none_tried (retries_left old.retries) old.writer.now)
+  all_tried old new (x ∷ xs) h = all_then_all h.1.3 (all_tried h.0 new xs h.2)
+
+  pub tries_after : (was is : RowLines T W) (xs : Rows) (r : Result ℕ AFault) → HandsRows gathers was is xs r
+      → Tries (retries_left was.retries) (retries_left is.retries) was.writer.now is.writer.now r
+  tries_after was is xs (Ok n) h = all_tried was is xs h.0
+  tries_after was is xs (Err fault) h = all_then (all_tried was h.mid h.front h.took) h.failed.3
 
   -- ---- the text, by the book that the sink had at first
   all_lines : (b : BookState) (old new : RowLines T W) (xs : Rows) → old.text.now ≡ b → TakesAll gathers old xs new

@@ -5,6 +5,7 @@ use Rattle.ob_base.specs.declared.stop.Fault.{Fault as AFault}
 use Rattle.ob_base.specs.declared.stop.Fault.TheVariants.{OutOfMemory, Output, Reopen}
 use Rattle.ob_base.specs.declared.stop.Stop.{Stop}
 use Rattle.ob_base.specs.declared.stop.Stop.TheVariants.{Fault}
+use Rattle.ob_stream.specs.Retrying.{TriesAnew}
 use Rattle.ob_stream.specs.Watching.{HasJustFailed, watched_bytes}
 use Rattle.ob_stream.specs.declared.watched.Watched.{Watched}
 use Rattle.ob_state.specs.State.{BookState}
@@ -34,10 +35,11 @@ module _ {F : Type 0} (contents : F → Option (List ℕ)) where
   RowsAs b was is (Err (Fault fault)) = WritesRowsOf b was is (Err fault)
   RowsAs b was is (Err stop) = ⊥
 
-  -- the same of a book that there may be; where there is none this is answered, and nothing is written
+  -- the same of a book that there may be, with 65,536 retries of interrupted writes in all; where there is none this is answered,
+  -- and nothing is written
   abbrev pub RowsOfBook : Option BookState → Watched F → Watched F → Result ℕ Stop → Type 0
   RowsOfBook None was is done = (done ≡ Err (Fault Reopen)) × (is ≡ was)
-  RowsOfBook (Some b) was is done = RowsAs b was is done
+  RowsOfBook (Some b) was is done = RowsAs b was is done × TriesAnew was is done
 
 -- the rows of a job, and what is told of them
 abbrev pub TellsRows : {F W : Type 0} → (F → Option (List ℕ)) → (W → Option (List ℕ)) → Option BookState

@@ -1,5 +1,7 @@
 //! The job that writes the interruptions of a book's customers.
-ghost use Rattle.std.specs.Prelude.{◌≡◌, length};
+ghost use Rattle.std.specs.Prelude.{◌≡◌, ℕ, length};
+ghost use Rattle.ob_stream.specs.Retrying.{Tries, TriesAnew};
+ghost use Rattle.ob_stream.specs.Streams.{retries_left};
 ghost use Rattle.ob_stream.specs.Watching.{watched_bytes};
 ghost use Rattle.ob_rows.specs.Rows.{interruption_rows};
 ghost use Rattle.ob_rows.specs.RowText.{row_lines};
@@ -44,7 +46,7 @@ pub fn interruptions_from_book<O: OpenOutput, S: Alter, T: Timeline, P: Progress
 
 /// Writes the interruptions of the customers of the keeper's book into a file: the header, and then
 /// a line for each interruption of customers who have equal service. Then writes `rows`, their
-/// number, and LF to `writer`.
+/// number, and LF to `writer`. Interrupted writes into the file are repeated, 65,536 times in all.
 ///
 /// # Errors
 ///
@@ -89,7 +91,9 @@ fn write_rows<F: Write, T: Timeline>(
     book: &Book<T>,
     file: &mut Watched<F>,
 ) -> Result<u64, Fault>
-    ensures { WritesRowsOf F.contents book.now.state file.old file.new result }
+    ensures rows { WritesRowsOf F.contents book.now.state file.old file.new result }
+    // interrupted writes are tried again, 65,536 times in all
+    ensures tries { TriesAnew file.old file.new result }
 {
     let mut retries = Retries::new();
     write_text(file, &mut retries, HEADER)?;
@@ -107,9 +111,10 @@ fn write_lines<F: Write, T: Timeline>(
     file: &mut Watched<F>,
     retries: Retries,
 ) -> Result<u64, Fault>
-    ensures { WritesRows F.contents (watched_bytes F.contents file.old) file.new
+    ensures rows { WritesRows F.contents (watched_bytes F.contents file.old) file.new
         (row_lines book.now.state (interruption_rows book.now.state))
         (length (interruption_rows book.now.state)) result }
+    ensures tries { (left : ℕ) × Tries (retries_left retries) left file.old file.new result }
 {
     let mut gathered = room_for_lines(alloc)?;
     let mut text = RowText::new(alloc, book);

@@ -1,5 +1,7 @@
 //! A sink that writes a line for each interruption row.
 ghost use Rattle.std.specs.Prelude.{◌≡◌, [], IfOk, IfErr};
+ghost use Rattle.ob_stream.specs.Retrying.{Tries};
+ghost use Rattle.ob_stream.specs.Streams.{retries_left};
 ghost use Rattle.ob_rows.specs.RowText.{row_line};
 ghost use Rattle.ob_jobs.specs.Gathering.{Empties, GathersLine};
 
@@ -34,7 +36,10 @@ fn write_gathered<W: Write>(
     retries: &mut Retries,
     gathered: &mut Vec<u8>,
 ) -> Result<(), Fault>
-    ensures { Empties W.contents writer.old gathered.old.items writer.new gathered.new.items result }
+    ensures empties { Empties W.contents writer.old gathered.old.items writer.new
+        gathered.new.items result }
+    ensures tries { Tries (retries_left retries.old) (retries_left retries.new) writer.old
+        writer.new result }
 {
     write_text(writer, retries, gathered)?;
     gathered.clear();
@@ -52,6 +57,8 @@ fn gather_row<T: Timeline, W: Write>(
     ensures text { text.new ≡ text.old }
     ensures gathers { GathersLine W.contents writer.old gathered.old.items writer.new
         gathered.new.items (row_line text.old row.now) result }
+    ensures tries { Tries (retries_left retries.old) (retries_left retries.new) writer.old
+        writer.new result }
 {
     if text.push_line(gathered, row).is_err() {
         return Err(Fault::OutOfMemory);
@@ -73,6 +80,8 @@ pub(crate) struct RowLines<'b, 'w, T: Timeline, W: Write> {
 
 impl<'b, 'w, T: Timeline, W: Write> RowLines<'b, 'w, T, W> {
     ghost use Rattle.std.specs.Prelude.{◌≡◌, [], length};
+    ghost use Rattle.ob_stream.specs.Retrying.{Tries};
+    ghost use Rattle.ob_stream.specs.Streams.{retries_left};
     ghost use Rattle.ob_stream.specs.Watching.{watched_bytes};
     ghost use Rattle.ob_rows.specs.Rows.{interruption_rows};
     ghost use Rattle.ob_rows.specs.RowText.{row_lines};
@@ -88,6 +97,7 @@ impl<'b, 'w, T: Timeline, W: Write> RowLines<'b, 'w, T, W> {
     ) -> RowLines<'b, 'w, T, W>
         ensures same_reference { result.writer.ghost_name ≡ writer.entry.ghost_name }
         ensures writer { result.writer.now ≡ writer.old }
+        ensures retries { result.retries ≡ retries }
         ensures book { result.text.now ≡ text.old }
         ensures gathered { result.gathered.now.items ≡ gathered.old.items }
     {
@@ -107,6 +117,8 @@ impl<'b, 'w, T: Timeline, W: Write> RowLines<'b, 'w, T, W> {
         ensures rows { WritesRows W.contents (watched_bytes W.contents self.old.writer.now)
             self.new.writer.now (row_lines book.now.state (interruption_rows book.now.state))
             (length (interruption_rows book.now.state)) result }
+        ensures tries { Tries (retries_left self.old.retries) (retries_left self.new.retries)
+            self.old.writer.now self.new.writer.now result }
     {
         let rows = each_row(book, self)?;
         write_gathered(self.writer, &mut self.retries, self.gathered)?;
@@ -118,7 +130,9 @@ impl<'b, 'w, T: Timeline, W: Write> RowSink for RowLines<'b, 'w, T, W> {
     ghost takes = { λ old row result new. (new.writer.ghost_name ≡ old.writer.ghost_name)
         × (new.text.now ≡ old.text.now)
         × GathersLine W.contents old.writer.now old.gathered.now.items new.writer.now
-        new.gathered.now.items (row_line old.text.now row) result };
+        new.gathered.now.items (row_line old.text.now row) result
+        × Tries (retries_left old.retries) (retries_left new.retries) old.writer.now new.writer.now
+        result };
 
     fn take(&mut self, row: &InterruptionRow) -> Result<(), Fault> {
         gather_row(

@@ -8,4 +8,4 @@ returns-clause-gathers g c =
     let line = row_line c.args.text.now c.args.row.now in
     let is : c.push_line.new.text.items ≡ c.args.gathered.now.items ++ line = search rules in
     gathered_line g.W.Write.contents c.args.writer.now c.write_gathered.new.writer c.args.gathered.now.items c.push_line.new.text.items
-    c.write_gathered.new.gathered.items line c.write_gathered.result is c.write_gathered.ensures
+    c.write_gathered.new.gathered.items line c.write_gathered.result is c.write_gathered.ensures.empties
