@@ -6,4 +6,4 @@ pub returns-in-Some : goal.returns-in-Some
 returns-in-Some g c = serves_view g.S.Store c.args.keeper.now c.in-Some.book.now.state c.args.view c.args.closes c.show.result c.in-Some.ensures.state c.show.ensures
 
 pub returns-in-None : goal.returns-in-None
-returns-in-None g c = serves_unopened g.S.Store c.args.keeper.now _ c.args.closes (sym c.in-None.ensures)
+returns-in-None g c = serves_unopened g.S.Store c.args.keeper.now _ c.args.closes (sym c.in-None.ensures.state)
