@@ -11,10 +11,11 @@ use Rattle.ob_sql_rows.specs.Steps.{IsStoreFault}
 use Rattle.ob_book.specs.Acts.{ActState, Referenced, Reply}
 use Rattle.ob_store.specs.Acting.{Acted, IsActStop, reply_as}
 use Rattle.ob_store.specs.Calls.{IfHeld, TellsFaults, WasClean}
-use Rattle.ob_store.specs.Keepers.{Ghosts, KeeperValue, Ties}
+use Rattle.ob_store.specs.Keepers.{Ghosts, KeeperValue, OnlySearches, Ties}
 use Rattle.ob_store.specs.Replying.{Replied}
 use Rattle.ob_store.specs.declared.reply.Reply.{Reply as GivenReply}
-use Rattle.ob_store.proofs.Faults.{tells_as, tells_nothing}
+use Rattle.ob_store.proofs.Faults.{tells_as, tells_nothing, tells_searched}
+use Rattle.ob_store.proofs.Searching.{only_searched}
 use Rattle.ob_csv.specs.Rows.{rows_of}
 use Rattle.ob_import.specs.Reports.{HasCause, Imported, IsStoreFault as IsImportStoreFault}
 use Rattle.ob_import.specs.declared.report.ImportFault.{ImportFault}
@@ -308,26 +309,43 @@ module _ {S : Type 0} (g : Ghosts S) where
   held_book None s is same = absurd (true≢false (sym is))
   held_book (Some t) s is same = ap Some same
 
-  serves_a_plan : (k : KeeperValue S) (body : List ℕ) (a : Answer) (closes : Bool) (result : Result ReplyText Fault)
+  -- the network was searched, and what the keeper was tied to it is tied to
+  still_tied : (k : KeeperValue S) (n : ℕ) (b : ActState) → Ties g k b → Ties g (record k { searches = n }) b
+  still_tied k n b ties = record { kept = ties.kept; book = ties.book }
+
+  serves_a_plan : (k : KeeperValue S) (n : ℕ) (body : List ℕ) (a : Answer) (closes : Bool) (result : Result ReplyText Fault)
       → IsSome k.book → ((s : BookState) → k.book ≡ Some s → IsPlanAnswer s body a) → Makes a closes result
-      → Serves g k k (λ b. RouteAnswered g k b methods.Post (Some routes.Plan) body closes result) None closes result
-  serves_a_plan k body a closes result there is made =
-      serves_made k (λ b. RouteAnswered g k b methods.Post (Some routes.Plan) body closes result) a closes result there made
-      (λ b ties. answered_planned g k b body a closes result (is b.book (held_book k.book b.book there ties.book)) made ties)
+      → Serves g k (record k { searches = n }) (λ b. RouteAnswered g (record k { searches = n }) b methods.Post (Some routes.Plan) body closes result) None closes result
+  serves_a_plan k n body a closes result there is made = record {
+    constant = tt;
+    unopened = λ none. absurd (none_there k.book none there);
+    faults = λ _. makes_faults a closes result made;
+    dropped = λ _. neither (λ none. none_there k.book none there) (makes_no_store_fault a closes result made);
+    clean = λ clean. clean;
+    answered = λ clean b ties _. answered_planned g (record k { searches = n }) b body a closes result (is b.book (held_book k.book b.book there ties.book)) made (still_tied k n b ties);
+    tells = tells_searched g k n _ (makes_no_store_fault a closes result made);
+  }
 
   pub serves_planned : (old new : KeeperValue S) (body : List ℕ) (a : Answer) (closes : Bool) (result : Result ReplyText Fault)
-      → new ≡ old → IsSome old.book → ((s : BookState) → old.book ≡ Some s → IsPlanAnswer s body a) → Makes a closes result
+      → OnlySearches old new → IsSome old.book → ((s : BookState) → old.book ≡ Some s → IsPlanAnswer s body a) → Makes a closes result
       → Serves g old new (λ b. RouteAnswered g new b methods.Post (Some routes.Plan) body closes result) None closes result
   serves_planned old new body a closes result same there is made =
-      subst (λ (k : KeeperValue S). Serves g old k (λ b. RouteAnswered g k b methods.Post (Some routes.Plan) body closes result) None closes result) (sym same)
-      (serves_a_plan old body a closes result there is made)
+      subst (λ (k : KeeperValue S). Serves g old k (λ b. RouteAnswered g k b methods.Post (Some routes.Plan) body closes result) None closes result) (only_searched old new same)
+      (serves_a_plan old new.searches body a closes result there is made)
 
   -- memory is refused to a plan
-  pub serves_unplanned : (old new : KeeperValue S) (body : List ℕ) (closes : Bool) → new ≡ old → IsSome old.book
+  pub serves_unplanned : (old new : KeeperValue S) (body : List ℕ) (closes : Bool) → OnlySearches old new → IsSome old.book
       → Serves g old new (λ b. RouteAnswered g new b methods.Post (Some routes.Plan) body closes (Err OutOfMemory)) None closes (Err OutOfMemory)
   serves_unplanned old new body closes same there =
-      subst (λ (k : KeeperValue S). Serves g old k (λ b. RouteAnswered g k b methods.Post (Some routes.Plan) body closes (Err OutOfMemory)) None closes (Err OutOfMemory)) (sym same)
-      (serves_short old (λ b. RouteAnswered g old b methods.Post (Some routes.Plan) body closes (Err OutOfMemory)) closes there (λ b ties. ties))
+      subst (λ (k : KeeperValue S). Serves g old k (λ b. RouteAnswered g k b methods.Post (Some routes.Plan) body closes (Err OutOfMemory)) None closes (Err OutOfMemory)) (only_searched old new same) (record {
+        constant = tt;
+        unopened = λ none. absurd (none_there old.book none there);
+        faults = λ _. tt;
+        dropped = λ _. neither (λ none. none_there old.book none there) (λ e. cc);
+        clean = λ clean. clean;
+        answered = λ clean b ties _. still_tied old new.searches b ties;
+        tells = tells_searched g old new.searches _ memory_is_no_loss;
+      })
 
   -- ---- an import
 

@@ -1,6 +1,7 @@
 //! Answers one request.
 ghost use Rattle.std.specs.Prelude.{◌≡◌, ◌↔◌, Some, None, Err, IsSome, IfSome, IfErr};
 ghost use Rattle.ob_store.specs.Calls.{IfHeld, TellsFaults, WasClean};
+ghost use Rattle.ob_store.specs.Keepers.{OnlySearches};
 ghost use Rattle.ob_http_requests.specs.Reading.{message_of};
 ghost use Rattle.ob_http_routes.specs.Answers.{AsksPlan, bookless, bookless_at, got};
 ghost use Rattle.ob_http_routes.specs.Answering.{Answered, Gives, IsAnswerFault, IsReplyOf, RouteAnswered, Serves, Unopened};
@@ -20,7 +21,7 @@ use std::alloc::Global;
 /// Answers a request from a keeper's book: applies the commands that it posts, and returns the bytes
 /// of the reply. `closes` decides whether the reply states that the stream ends after it. A path
 /// without a route is answered 404, and a method that the route doesn't take 405, whatever the
-/// keeper and the memory. A plan leaves the keeper as it is.
+/// keeper and the memory. A plan leaves the store and the book of the keeper as they are.
 ///
 /// # Errors
 ///
@@ -43,7 +44,7 @@ pub fn answer<S: Alter, T: Timeline>(
     ensures clean { WasClean S.Store keeper.old keeper.new }
     ensures answered { IfHeld S.Store keeper.old keeper.new
         (λ b. Answered S.Store keeper.new b (message_of request.now) closes result) }
-    ensures plan { AsksPlan (message_of request.now) → keeper.new ≡ keeper.old }
+    ensures plan { AsksPlan (message_of request.now) → OnlySearches keeper.old keeper.new }
     // no fault of the store is forgotten, row numbers and the step limit stay, and a store fault has
     // a cause
     ensures tells { TellsFaults S.Store keeper.old keeper.new (result ≡ Err Fault.Store) }
@@ -64,7 +65,8 @@ fn answer_route<S: Alter, T: Timeline>(
     ensures serves { Serves S.Store keeper.old keeper.new
         (λ b. RouteAnswered S.Store keeper.new b method route body.now closes result)
         (bookless_at method route) closes result }
-    ensures plan { method ≡ Method.Post → route ≡ Some Route.Plan → keeper.new ≡ keeper.old }
+    ensures plan { method ≡ Method.Post → route ≡ Some Route.Plan
+        → OnlySearches keeper.old keeper.new }
 {
     match route {
         None => Ok(bare_reply(Status::NotFound, closes)),
@@ -106,7 +108,7 @@ fn answer_post<S: Alter, T: Timeline>(
     ensures serves { Serves S.Store keeper.old keeper.new
         (λ b. RouteAnswered S.Store keeper.new b Method.Post (Some route) body.now closes result)
         (bookless_at Method.Post (Some route)) closes result }
-    ensures plan { route ≡ Route.Plan → keeper.new ≡ keeper.old }
+    ensures plan { route ≡ Route.Plan → OnlySearches keeper.old keeper.new }
 {
     match route {
         Route::Commands => post_command(alloc, keeper, body, closes),

@@ -4,6 +4,7 @@ ghost use Rattle.ob_base.specs.declared.stop.Fault.{Fault as AFault};
 ghost use Rattle.ob_base.specs.declared.stop.Refusal.{Refusal as ARefusal};
 ghost use Rattle.ob_base.specs.declared.stop.Stop.{Stop as AStop};
 ghost use Rattle.ob_state.specs.State.{BookState};
+ghost use Rattle.ob_store.specs.Keepers.{OnlySearches};
 ghost use Rattle.ob_http_requests.specs.declared.framing.Method.{Method};
 ghost use Rattle.ob_http_routes.specs.Answers.{IsPlanAnswer, found as found_of, refused as refused_of};
 ghost use Rattle.ob_http_routes.specs.Answering.{RouteAnswered, Serves};
@@ -16,13 +17,13 @@ use ob_store::{Alter, Keeper};
 use ob_sweep::Timeline;
 use std::alloc::Global;
 
-/// Returns what the command in a body would do, as JSON. Nothing changes.
+/// Returns what the command in a body would do, as JSON. Only the network is searched.
 fn plan<S: Alter, T: Timeline>(
     alloc: Global,
     keeper: &mut Keeper<S, T>,
     body: &[u8],
 ) -> Result<Vec<u8>, Stop>
-    ensures same { keeper.new ≡ keeper.old }
+    ensures same { OnlySearches keeper.old keeper.new }
     ensures text { (b : BookState) → keeper.old.book ≡ Some b → IfOk result (λ text.
         IsPlanAnswer b body.now (found_of MediaType.Json (Some text.items))) }
     ensures refused { (b : BookState) → keeper.old.book ≡ Some b → (refusal : ARefusal)
@@ -34,8 +35,8 @@ fn plan<S: Alter, T: Timeline>(
     keeper.plan(&command)
 }
 
-/// Replies what the command in a body would do. Nothing changes. `Fault::Reopen` if there is no
-/// book.
+/// Replies what the command in a body would do. Only the network is searched. `Fault::Reopen` if
+/// there is no book.
 pub(crate) fn post_plan<S: Alter, T: Timeline>(
     alloc: Global,
     keeper: &mut Keeper<S, T>,
@@ -45,7 +46,7 @@ pub(crate) fn post_plan<S: Alter, T: Timeline>(
     ensures serves { Serves S.Store keeper.old keeper.new
         (λ b. RouteAnswered S.Store keeper.new b Method.Post (Some Route.Plan) body.now closes
         result) None closes result }
-    ensures same { keeper.new ≡ keeper.old }
+    ensures same { OnlySearches keeper.old keeper.new }
 {
     if keeper.book().is_none() {
         return Err(Fault::Reopen);

@@ -13,6 +13,7 @@ use Rattle.ob_book.specs.Forecasts.{forecast_text_of}
 use Rattle.ob_store.specs.Keepers.{Ghosts, KeeperValue}
 use Rattle.ob_lists.specs.Going.{PlansOne, RefusesOne}
 use Rattle.ob_lists.specs.Standing.{Stands}
+use Rattle.ob_lists.proofs.Standings.{kept_on}
 
 not_stopped : {X : Type 0} (x : X) (stop : Stop) → ◌≡◌ {A = Result X Stop} (Ok x) (Err stop) → ⊥
 not_stopped x stop e = true≢false (ap is_ok e)
@@ -65,3 +66,9 @@ module _ {S X : Type 0} (g : Ghosts S) (Is : ActState → Type 0) (k : KeeperVal
   refuses_one result reopen refuses (inr (inl it)) why told = absurd (not_refused why (sym told ∙ reopen it.lost))
   refuses_one result reopen refuses (inr (inr (inl it))) why told = absurd (not_refused why (sym told ∙ reopen it.lost))
   refuses_one result reopen refuses (inr (inr (inr it))) why told = absurd (not_refused why (sym told ∙ reopen it.lost))
+
+-- what stands still does after searches of the network
+pub searched_stands : {S : Type 0} (g : Ghosts S) (Is : ActState → Type 0) (k : KeeperValue S) (n : ℕ) → Stands g Is k → Stands g Is (record k { searches = n })
+searched_stands g Is k n =
+    kept_on g k (record k { searches = n }) Is
+    (record { book = λ b keeps. keeps; either = λ b c keeps. keeps; old_book = λ b keeps. keeps; version = λ b keeps. keeps }) (inl refl)

@@ -104,8 +104,8 @@ pub fn reply_of<S: Alter, T: Timeline>(
     keeper.reply_of(no)
 }
 
-/// Asks what a command would do. Nothing changes, and what is answered holds of one of the books
-/// that the calls may have left.
+/// Asks what a command would do. The store and the book stay as they are, and what is answered holds
+/// of one of the books that the calls may have left.
 pub fn plan<S: Alter, T: Timeline>(
     keeper: &mut Keeper<S, T>,
     command: &Command,

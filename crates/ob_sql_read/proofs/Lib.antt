@@ -22,4 +22,5 @@ pub mod NoWrite
 mod RowNumbers
 mod NumberQuery
 mod SameNetwork
+mod Searching
 mod Versions

@@ -1,6 +1,6 @@
 //! Compares the table of moved amounts with the changes that the commands make: row by row, in one
 //! query.
-ghost use Rattle.std.specs.Prelude.{◌∷◌, ◌≡◌, ◌≢◌, ◌↔◌, ◌&&◌, false, true, List, [], IsTrue, IfOk, IfErr, OnOk, Ok, Some, is_none};
+ghost use Rattle.std.specs.Prelude.{◌∷◌, ◌≡◌, ◌≢◌, ◌≤◌, ◌+◌, ◌↔◌, ◌&&◌, false, true, List, [], IsTrue, IfOk, IfErr, OnOk, Ok, Some, is_none};
 ghost use Rattle.sqlite.specs.Order.{Row as ARow};
 ghost use Rattle.sqlite.specs.Held.{state};
 ghost use Rattle.sqlite.specs.Given.{HasGiven};
@@ -10,6 +10,7 @@ ghost use Rattle.ob_post.specs.Keys.{dim_number};
 ghost use Rattle.ob_state.specs.Amounts.{moves as moves_of};
 ghost use Rattle.ob_state.specs.Next.{next};
 ghost use Rattle.ob_state.specs.Refusals.{refusal as refusal_to};
+ghost use Rattle.ob_state.specs.Searches.{all_searches, most_searches};
 ghost use Rattle.ob_sql_rows.specs.Versions.{schema_of};
 ghost use Rattle.ob_sql_rows.specs.declared.version.Version.{Version as AVersion};
 ghost use Rattle.ob_sql_rows.specs.Rows.{Columns, Tables, moved_row};
@@ -165,6 +166,8 @@ fn takes_on<S: Alter, T: Timeline>(
         × (book.new.state ≡ next book.old.state command.now) }
     ensures noted { result ≡ Ok true → noted.old ≡ book.old.state.network
         → noted.new ≡ book.new.state.network }
+    ensures searches { book.new.searches ≤ book.old.searches + most_searches T.bound book.old.state
+        command.now }
 {
     if !fits(book, command, version) {
         return Ok(false);
@@ -216,6 +219,8 @@ fn follows<S: Alter, T: Timeline, P: Progress>(
         (commands_of (filed_of commands.now)) ≡ Some book.new.state }
     ensures noted { result ≡ Ok true → noted.old ≡ book.old.state.network
         → noted.new ≡ book.new.state.network }
+    ensures searches { book.new.searches ≤ book.old.searches + all_searches T.bound book.old.state
+        (commands_of (filed_of commands.now)) }
 {
     progress.begin(Work::Commands, commands.len() as u64);
     'commands: for at in 0..commands.len() {
@@ -233,7 +238,8 @@ fn follows<S: Alter, T: Timeline, P: Progress>(
 /// Whether a version accepts each command in its turn, and the table of moved amounts holds exactly
 /// the changes that they make. Replays the commands on the book, records what they change in the
 /// network, and reports each replayed command to `progress`. Nothing is written. Refuses with
-/// `BadBook` if the database lacks the table. The tables may be those of either version.
+/// `BadBook` if the database lacks the table. The tables may be those of either version. Searches the
+/// network for each command at most as often as its plan may.
 pub fn holds_moves<S: Alter, T: Timeline, P: Progress>(
     conn: &mut Connection<S>,
     book: &mut Book<T>,
@@ -267,6 +273,8 @@ pub fn holds_moves<S: Alter, T: Timeline, P: Progress>(
         (commands_of (filed_of commands.now)) ≡ Some book.new.state }
     ensures noted { result ≡ Ok true → noted.old ≡ book.old.state.network
         → noted.new ≡ book.new.state.network }
+    ensures searches { book.new.searches ≤ book.old.searches + all_searches T.bound book.old.state
+        (commands_of (filed_of commands.now)) }
 {
     // No `?` here: it would convert the error, and the contract states which error it is.
     let statement = match prepare(conn, select_of(Table::Moved)) {

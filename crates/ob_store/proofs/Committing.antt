@@ -120,14 +120,14 @@ commit_cause g old last end is b list added it live keeps quiet ends e clean fai
     ]
 
 -- ---- a keeper
-pub acted_ok : {S : Type 0} (g : Ghosts S) (conn : Held S) (is : BookState) (b : ActState) (list : List Line) (added : ℕ) → ActsAll g conn is b list (Ok added)
-    → ActedAll g (record { conn = conn; book = Some is }) b list (Ok added)
-acted_ok g conn is b list added it = (it.0, it.1, it.2, record { kept = it.3; book = it.4 }, refl)
+pub acted_ok : {S : Type 0} (g : Ghosts S) (conn : Held S) (is : BookState) (n : ℕ) (b : ActState) (list : List Line) (added : ℕ) → ActsAll g conn is b list (Ok added)
+    → ActedAll g (record { conn = conn; book = Some is; searches = n }) b list (Ok added)
+acted_ok g conn is n b list added it = (it.0, it.1, it.2, record { kept = it.3; book = it.4 }, refl)
 
 -- a crash leaves what the transaction may leave
-pub commits_of : {S : Type 0} (g : Ghosts S) (k : KeeperValue S) (old new : Held S) (book : Option BookState) (was : BookState) (list : List Line) → old ≡ k.conn → k.book ≡ Some was
-    → Survives (state g old) (state g new) (LeavesLast (state g old) was list) → CommitsOf g (LeadTo list) k (record { conn = new; book = book })
-commits_of g k old new book was list conn_is book_is it =
+pub commits_of : {S : Type 0} (g : Ghosts S) (k : KeeperValue S) (old new : Held S) (book : Option BookState) (n : ℕ) (was : BookState) (list : List Line) → old ≡ k.conn → k.book ≡ Some was
+    → Survives (state g old) (state g new) (LeavesLast (state g old) was list) → CommitsOf g (LeadTo list) k (record { conn = new; book = book; searches = n })
+commits_of g k old new book n was list conn_is book_is it =
     subst (λ h. Survives (state g h) (state g new) (λ trees. (b : ActState) → Ties g k b → IsSome k.book → (c : ActState) × LeadTo list b c × Leaves (tables_of c) trees)) conn_is
     (record {
       clean = it.clean;

@@ -48,7 +48,7 @@ one_schema s t trees one other =
     read_once _ s t it.tables it.indexes it.views (reads _ t other.lists)
 
 -- the tables that a crash left are those of this book
-book_left : ReachedAreFew → (trees : Trees) (b : ActState) → IsReached b → AllByRecursion IsReferenced b.accepted → Differs trees b None → IsBookOf trees b
+pub book_left : ReachedAreFew → (trees : Trees) (b : ActState) → IsReached b → AllByRecursion IsReferenced b.accepted → Differs trees b None → IsBookOf trees b
 book_left few trees b reached valid rows = record {
   reached = reached;
   valid = valid;

@@ -1,5 +1,5 @@
 -- What calls one after the other tell of the faults of their store.
-use Rattle.std.proofs.Common.{◌≡◌, inl, inr, List, [], ◌++◌, Result, Err, IsSome, IsTrue, refl, sym, subst, arith}
+use Rattle.std.proofs.Common.{◌≡◌, ℕ, inl, inr, List, [], ◌++◌, Result, Err, IsSome, IsTrue, refl, sym, subst, arith}
 use Rattle.std.specs.Prelude.{⊤}
 use Rattle.std.proofs.lemmas.List.Sums.{fold-append}
 use Rattle.sqlite.specs.Held.{state}
@@ -40,6 +40,14 @@ module _ {S : Type 0} (g : Ghosts S) where
     numbered = λ clean b ties some numbers. numbers;
     cause = λ clean b ties some numbers fails. absurd (never fails);
   })
+
+  -- nothing but searches of the network was done
+  pub tells_searched : (k : KeeperValue S) (n : ℕ) (failed : Type 0) → (failed → ⊥) → TellsFaults g k (record k { searches = n }) failed
+  tells_searched k n failed never = record {
+    forgets = any_still (state g k.conn);
+    numbered = λ clean b ties some numbers. numbers;
+    cause = λ clean b ties some numbers fails. absurd (never fails);
+  }
 
   -- a failure that is reported in other words
   pub tells_as : (old new : KeeperValue S) (F G : Type 0) → (G → F) → TellsFaults g old new F → TellsFaults g old new G

@@ -75,7 +75,8 @@ module _ (v : Version) (laws : Laws v) (trees : Trees) (it : Named) (named : IsN
   pub distinct_is : AreDistinct list
   distinct_is = subst AreDistinct commands_are (laws.accepted b of.reached).0
 
-  from_is : (first : BookState) → IsNewBook it.heading first → first ≡ empty_book b.book.period
+  -- from a new book of the heading's period
+  pub from_is : (first : BookState) → IsNewBook it.heading first → first ≡ empty_book b.book.period
   from_is first new = new.new ∙ ap empty_book (sym (new.only b.book.period period_is))
 
   -- the commands lead to it

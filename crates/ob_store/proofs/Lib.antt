@@ -33,3 +33,4 @@ pub mod Restarting
 pub mod Within
 pub mod Committing
 pub mod Faults
+pub mod Searching

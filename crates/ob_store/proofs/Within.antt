@@ -26,7 +26,9 @@ use Rattle.ob_record.specs.Leading.{Records}
 use Rattle.ob_record.specs.Naming.{IsReferenced}
 use Rattle.ob_record.specs.Reached.{AcceptedIsReached, IsReached}
 use Rattle.ob_record.specs.Tables.{tables_of}
+use Rattle.ob_book.specs.Searches.{Bound}
 use Rattle.ob_store.specs.Acting.{IsActStop}
+use Rattle.ob_store.specs.Searching.{searches_of_line, searches_of_lines}
 use Rattle.ob_store.specs.Whole.{Halts, InTurn, IsWhole, LeadsTables, Line, ShowsBook, Steps, Tries, after_line, after_lines, answer_to, goes_on}
 use Rattle.ob_store.proofs.Accepting.{holds_as, valid_more}
 
@@ -235,6 +237,28 @@ turn_next old mid new was is b list place added d is_new it low step =
       valid = step.valid;
       memory = step.memory;
     }
+
+-- ---- how often the lines were searched for
+-- the searches so far with those of the lines that are left are no more than those of all may be
+pub record SearchedTurn (bound : Bound) (old now : State) (is : BookState) (before : ℕ) (n : ℕ) (b : ActState) (list : List Line) (place added : ℕ) : Type 0 where
+  pub turn : InTurn old now is b list place added
+  pub few : n + searches_of_lines bound turn.book (drop place list) ≤ before + searches_of_lines bound b list
+
+pub searched_first : (bound : Bound) (s : State) (is : BookState) (n : ℕ) (b : ActState) (list : List Line) → IsTrue s.in_transaction → IsReached b → AllByRecursion IsReferenced b.accepted → is ≡ b.book → SearchedTurn bound s s is n n b list 0 0
+unfolding turn_first
+searched_first bound s is n b list inside reached valid memory = record { turn = turn_first s is b list inside reached valid memory; few = omega arith }
+
+pub searched_next : (bound : Bound) (old mid new : State) (was is : BookState) (before n m : ℕ) (b : ActState) (list : List Line) (place added : ℕ) (d : Line) (is_new : Bool) (it : SearchedTurn bound old mid was before n b list place added) → place < length list
+    → Steps mid new is it.turn.book (get_or list place d) is_new → m ≤ n + searches_of_line bound it.turn.book (get_or list place d)
+    → SearchedTurn bound old new is before m b list (place + 1) (added + (if is_new then 1 else 0))
+unfolding turn_next
+searched_next bound old mid new was is before n m b list place added d is_new it low step more = record {
+  turn = turn_next old mid new was is b list place added d is_new it.turn low step;
+  few = let here = ap (searches_of_lines bound it.turn.book) (drop_next list place d low) in omega (arith, it.few, here, more);
+}
+
+pub searched_all : (bound : Bound) (old now : State) (is : BookState) (before n : ℕ) (b : ActState) (list : List Line) (place added : ℕ) → SearchedTurn bound old now is before n b list place added → n ≤ before + searches_of_lines bound b list
+searched_all bound old now is before n b list place added it = omega (arith, it.few)
 
 -- a line was refused, or memory was or the store failed
 pub halts : (mid new : State) (is : BookState) (first book : ActState) (list : List Line) (place : ℕ) (d : Line) (stop : Stop) → place < length list → after_lines first 0 list ≡ after_lines book place (drop place list)

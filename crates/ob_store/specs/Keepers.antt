@@ -22,6 +22,10 @@ HasTables k = k.conn.schema ≡ book_schema
 abbrev pub HasOldTables : {S : Type 0} → KeeperValue S → Type 0
 HasOldTables k = k.conn.schema ≡ old_schema
 
+-- its store and its book are as they were; only the network of the book may have been searched
+abbrev pub OnlySearches : {S : Type 0} → KeeperValue S → KeeperValue S → Type 0
+OnlySearches old new = (new.conn ≡ old.conn) × (new.book ≡ old.book)
+
 module _ {S : Type 0} (g : Ghosts S) where
   -- its disk has returned what was written so far
   abbrev pub IsClean : KeeperValue S → Type 0

@@ -1,7 +1,7 @@
 -- What a store keeps of a book, and how a keeper is tied to it.
-use Rattle.std.specs.Prelude.{◌≡◌, ◌⊎◌, ⊤, Option, None, IfSome, Result, Ok, Err, IsTrue, IfErr, OnOk, refl}
+use Rattle.std.specs.Prelude.{◌≡◌, ◌⊎◌, ⊤, ℕ, Option, None, IfSome, Result, Ok, Err, IsTrue, IfErr, OnOk, refl}
 use Rattle.std.specs.List.{AllByRecursion}
-use Rattle.std.specs.Coded.{Coded, code_by, coded×, coded_option}
+use Rattle.std.specs.Coded.{Coded, code_by, coded×, coded_ℕ, coded_option}
 use Rattle.sqlite_trees.specs.declared.store.Store.{Ghosts}
 use Rattle.sqlite.specs.Held.{Held, state}
 use Rattle.sqlite.specs.Tree.{Trees}
@@ -80,16 +80,18 @@ IsBroken trees = ¬ (AreApart (trees 14))
 abbrev pub HasStoreCause : {X : Type 0} → State → State → Result X Stop → Type 0
 HasStoreCause old new result = IfErr result (λ stop. stop ≡ Fault Store → HasFailed old new ⊎ IsBroken old.now.trees)
 
--- a connection to the store, and the state of the book, where there is one
+-- a connection to the store, the state of the book, where there is one, and how often the network of that book was searched since
+-- the book was made; 0 where there is no book
 pub record KeeperValue (S : Type 0) : Type 0 where
   pub conn : Held S
   pub book : Option BookState
+  pub searches : ℕ
 
--- a value as the pair of its parts
+-- a value as its parts
 abbrev pub keeper_code : {S : Type 0} → Coded (Held S) → Coded BookState → Coded (KeeperValue S)
 keeper_code {S} held book =
-    code_by (Held S × Option BookState) (coded× held (coded_option book)) (λ k. (k.conn, k.book))
-    (λ p. record { conn = p.0; book = p.1 }) (λ _. refl)
+    code_by (Held S × (Option BookState × ℕ)) (coded× held (coded× (coded_option book) coded_ℕ)) (λ k. (k.conn, (k.book, k.searches)))
+    (λ p. record { conn = p.0; book = p.1.0; searches = p.1.1 }) (λ _. refl)
 
 -- the book of a keeper whose call was stopped: none after a fault of the store, and else the one that there was
 abbrev pub IsBookAfter : Option BookState → Option BookState → Stop → Type 0

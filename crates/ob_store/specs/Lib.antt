@@ -18,3 +18,4 @@ pub mod MovingOut
 pub mod Keepers
 pub mod Calls
 pub mod Whole
+pub mod Searching

@@ -1,9 +1,11 @@
 //! Applies a command under a reference: the reply, and the state of the store and of the book
 //! afterwards.
-ghost use Rattle.std.specs.Prelude.{◌≡◌, ◌≢◌, ◌≤◌, ⊤, false, None, IfErr, OnErr};
+ghost use Rattle.std.specs.Prelude.{◌≡◌, ◌≢◌, ◌≤◌, ◌+◌, ⊤, false, None, IfErr, OnErr};
 ghost use Rattle.sqlite.specs.Held.{state};
 ghost use Rattle.sqlite.specs.State.{HasCleanDisk, Survives};
+ghost use Rattle.ob_state.specs.Searches.{most_searches};
 ghost use Rattle.ob_book.specs.Acts.{ActState, number_of};
+ghost use Rattle.ob_book.specs.Searches.{searches_of_act};
 ghost use Rattle.ob_command.specs.Commands.{IsCommand, body_text as body_text_of};
 ghost use Rattle.ob_store.specs.Keeping.{KeepsBook};
 ghost use Rattle.ob_sql_write.specs.Keeps.{KeepsNumbers};
@@ -48,6 +50,13 @@ pub(crate) fn act_on<S: Alter, T: Timeline>(
     ensures numbered { (b : ActState) → KeepsBook (state S.Store conn.old) b
         → book.old.state ≡ b.book → KeepsNumbers (state S.Store conn.old)
         → KeepsNumbers (state S.Store conn.new) }
+    ensures searches { book.new.searches ≤ book.old.searches + most_searches T.bound book.old.state
+        command.now }
+    // none for a command that is refused, or whose reference is known
+    ensures searched { HasCleanDisk (state S.Store conn.new) → (b : ActState)
+        → KeepsBook (state S.Store conn.old) b → book.old.state ≡ b.book
+        → book.new.searches ≤ book.old.searches + searches_of_act T.bound b
+        (under reference.now command.now) }
 {
     reached_law();
     naming_law();
@@ -94,6 +103,11 @@ fn accept<S: Alter, T: Timeline>(
     ensures numbered { (b : ActState) → KeepsBook (state S.Store conn.old) b
         → book.old.state ≡ b.book → KeepsNumbers (state S.Store conn.old)
         → KeepsNumbers (state S.Store conn.new) }
+    ensures searches { book.new.searches ≤ book.old.searches + most_searches T.bound book.old.state
+        command.now }
+    ensures searched { (b : ActState) → book.old.state ≡ b.book
+        → number_of b reference.now ≡ None → book.new.searches ≤ book.old.searches
+        + searches_of_act T.bound b (under reference.now command.now) }
 {
     reached_law();
     let plan = match book.decide(command) {

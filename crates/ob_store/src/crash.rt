@@ -1,7 +1,9 @@
-//! Laws of what a keeper finds of a book after a crash of its store.
+//! Laws of what a keeper finds of a book after a crash of its store, and how often it searches.
 ghost use Rattle.ob_store.specs.Crashing.{CrashLaw, LeftLaw, LoadLaw};
 ghost use Rattle.ob_store.specs.OldCrashing.{OldCrashLaw};
+ghost use Rattle.ob_store.specs.Searching.{LoadsAsReplayed, ReplayGrows};
 
+use ob_book::searches_law;
 use ob_record::naming_law;
 use ob_sql_check::upgrade_law;
 use sqlite::Alter;
@@ -43,4 +45,16 @@ pub fn load_law<S: Alter>()
     ensures { LoadLaw S.Store }
 {
     naming_law();
+}
+
+/// States that a load of a book that the store kept searches the network no more often than a replay
+/// of the book's commands may, and that a command adds to that what `Keeper::act` may search for it.
+/// So does each list of commands after a load, and then a load of the book that they lead to may
+/// search as often as all of these calls. Does nothing at run time.
+pub fn load_searches_law<S: Alter>()
+    ensures grows { ReplayGrows }
+    ensures loads { LoadsAsReplayed S.Store }
+{
+    naming_law();
+    searches_law();
 }

@@ -1,5 +1,5 @@
 //! Creates a new book, in an empty database and in memory.
-ghost use Rattle.std.specs.Prelude.{◌≡◌, false, OnOk};
+ghost use Rattle.std.specs.Prelude.{◌≡◌, ◌≤◌, false, IfOk, OnOk};
 ghost use Rattle.sqlite.specs.Held.{state};
 ghost use Rattle.sqlite.specs.State.{HasCleanDisk};
 ghost use Rattle.ob_sql_write.specs.Keeps.{KeepsNumbers};
@@ -31,6 +31,7 @@ pub(crate) fn create_on<S: Alter, T: Timeline>(
     ensures cause { HasCleanDisk (state S.Store conn.new)
         → HasCreateCause S.Store conn.old conn.new first.now days zone.now result }
     ensures numbered { OnOk result (KeepsNumbers (state S.Store conn.new)) }
+    ensures searches { IfOk result (λ book. book.searches ≤ 1) }
 {
     reached_law();
     let period = match Period::from_text(alloc, first, days, zone) {

@@ -1,5 +1,6 @@
 //! The storage layer (`Keeper`): a book in memory, and the connection to the store of its tables.
-ghost use Rattle.std.specs.Option.{option_map};
+ghost use Rattle.std.specs.Option.{option_map, option_map_or};
+ghost use Rattle.std.specs.Prelude.{◌≤◌};
 ghost use Rattle.ob_store.specs.Keeping.{IsBookAfter};
 
 use crate::acting::act_on;
@@ -31,7 +32,7 @@ pub struct Keeper<S: Alter, T: Timeline> {
 
 impl<S: Alter, T: Timeline> Model for Keeper<S, T> {
     ghost use Rattle.std.specs.Prelude.{◌≡◌, false};
-    ghost use Rattle.std.specs.Option.{option_map};
+    ghost use Rattle.std.specs.Option.{option_map, option_map_or};
     ghost use Rattle.std.specs.Coded.{codes};
     ghost use Rattle.sqlite.specs.Held.{held_code};
     ghost use Rattle.ob_store.specs.Keeping.{KeeperValue, keeper_code};
@@ -40,15 +41,21 @@ impl<S: Alter, T: Timeline> Model for Keeper<S, T> {
 
     ghost coded = { keeper_code (held_code S.code) (Prim.hlevel codes) };
 
-    ghost view = { λ k. record { conn = k.conn; book = option_map (λ b. b.state) k.book } };
+    ghost view = { λ k. record {
+      conn = k.conn;
+      book = option_map (λ b. b.state) k.book;
+      searches = option_map_or (λ b. b.searches) k.book 0;
+    } };
 
     ghost invariant = { λ k. k.conn.in_transaction ≡ false };
 }
 
 /// Drops the book after a fault of the store.
 fn settle<T: Timeline>(book: &mut Option<Book<T>>, stop: Stop)
-    ensures { IsBookAfter (option_map (λ b. b.state) book.old) (option_map (λ b. b.state) book.new)
-        stop }
+    ensures after { IsBookAfter (option_map (λ b. b.state) book.old)
+        (option_map (λ b. b.state) book.new) stop }
+    ensures searches { option_map_or (λ b. b.searches) book.new 0
+        ≤ option_map_or (λ b. b.searches) book.old 0 }
 {
     if let Stop::Fault(Fault::Store) = stop {
         *book = None;
@@ -56,7 +63,7 @@ fn settle<T: Timeline>(book: &mut Option<Book<T>>, stop: Stop)
 }
 
 impl<S: Alter, T: Timeline> Keeper<S, T> {
-    ghost use Rattle.std.specs.Prelude.{◌≡◌, ◌↔◌, ◌≤◌, ⊤, length, false, None, Some, Err, IsErr, IsSome, IsTrue, IfErr, IfOk, OnOk};
+    ghost use Rattle.std.specs.Prelude.{◌≡◌, ◌↔◌, ◌≤◌, ◌+◌, ⊤, length, false, None, Some, Err, IsErr, IsSome, IsTrue, IfErr, IfOk, IfSome, OnOk};
     ghost use Rattle.ob_base.specs.declared.stop.Refusal.{Refusal as ARefusal};
     ghost use Rattle.ob_base.specs.declared.stop.Fault.{Fault as AFault};
     ghost use Rattle.ob_base.specs.declared.stop.Stop.{Stop as AStop};
@@ -65,7 +72,10 @@ impl<S: Alter, T: Timeline> Keeper<S, T> {
     ghost use Rattle.ob_book.specs.Forecasts.{forecast_text_of};
     ghost use Rattle.sqlite.specs.Held.{state};
     ghost use Rattle.sqlite.specs.State.{HasCleanDisk, Survives};
+    ghost use Rattle.ob_state.specs.Searches.{most_searches};
     ghost use Rattle.ob_book.specs.Acts.{ActState};
+    ghost use Rattle.ob_book.specs.Searches.{searches_of_act};
+    ghost use Rattle.ob_store.specs.Searching.{SearchesOfLoad, searches_of_lines};
     ghost use Rattle.ob_store.specs.Keeping.{Answers, IsBookAfter, Ties};
     ghost use Rattle.ob_store.specs.Crashing.{Loads};
     ghost use Rattle.ob_sql_write.specs.Keeps.{KeepsNumbers};
@@ -90,6 +100,7 @@ impl<S: Alter, T: Timeline> Keeper<S, T> {
         requires idle { conn.in_transaction ≡ false }
         ensures conn { result.conn ≡ conn }
         ensures book { result.book ≡ None }
+        ensures searches { result.searches ≡ 0 }
     {
         Keeper {
             alloc,
@@ -112,6 +123,8 @@ impl<S: Alter, T: Timeline> Keeper<S, T> {
             self.old.conn self.new.conn first.now days zone.now result }
         // the hidden row numbers are 1, 2, 3 and so on in whatever a crash leaves afterwards
         ensures numbered { OnOk result (KeepsNumbers (state S.Store self.new.conn)) }
+        ensures searches { OnOk result (self.new.searches ≤ 1) }
+        ensures unsearched { IfErr result (λ _. self.new.searches ≤ self.old.searches) }
     {
         match create_on(self.alloc, &mut self.conn, first, days, zone) {
             Ok(book) => {
@@ -127,8 +140,9 @@ impl<S: Alter, T: Timeline> Keeper<S, T> {
 
     /// Applies a command under a reference in one transaction: decides on it, writes and commits
     /// its rows, and then adopts it in the book. If the reference is known, an equal command gets
-    /// its stored reply and changes nothing; any other command is refused as `RefConflict`.
-    /// `Fault::Reopen` if the keeper has no book.
+    /// its stored reply and changes nothing; any other command is refused as `RefConflict`. Searches
+    /// the network at most as often as planning the command's change may. `Fault::Reopen` if the
+    /// keeper has no book.
     pub fn act(&mut self, reference: Ref, command: Command) -> Result<Reply, Stop>
         ensures reopen { (self.old.book ≡ None) ↔ (result ≡ Err (Stop.Fault Fault.Reopen)) }
         ensures unopened { self.old.book ≡ None → self.new ≡ self.old }
@@ -154,6 +168,13 @@ impl<S: Alter, T: Timeline> Keeper<S, T> {
         ensures numbered { (b : ActState) → Ties S.Store self.old b
             → KeepsNumbers (state S.Store self.old.conn)
             → KeepsNumbers (state S.Store self.new.conn) }
+        // the network is searched for the window of the command's change, and no more
+        ensures searches { (s : BookState) → self.old.book ≡ Some s
+            → self.new.searches ≤ self.old.searches + most_searches T.bound s command }
+        // and not at all for a command that is refused, or whose reference is known
+        ensures searched { HasCleanDisk (state S.Store self.new.conn) → (b : ActState)
+            → Ties S.Store self.old b → IsSome self.old.book → self.new.searches
+            ≤ self.old.searches + searches_of_act T.bound b (under reference command) }
     {
         let Some(book) = &mut self.book else {
             return Err(Stop::Fault(Fault::Reopen));
@@ -202,6 +223,10 @@ impl<S: Alter, T: Timeline> Keeper<S, T> {
             → KeepsNumbers (state S.Store self.new.conn) }
         // a crash leaves what it could leave before, or that with all commands of the list
         ensures commits { CommitsOf S.Store (LeadTo list.now) self.old self.new }
+        // each line is searched for as `act` does
+        ensures searched { HasCleanDisk (state S.Store self.new.conn) → (b : ActState)
+            → Ties S.Store self.old b → IsSome self.old.book
+            → self.new.searches ≤ self.old.searches + searches_of_lines T.bound b list.now }
     {
         let Some(book) = &mut self.book else {
             return Err(Halted {
@@ -237,6 +262,7 @@ impl<S: Alter, T: Timeline> Keeper<S, T> {
         ensures cause { HasCleanDisk (state S.Store self.new.conn) → (b : ActState)
             → Ties S.Store self.old b → IsSome self.old.book → HasFaultCause
             (state S.Store self.old.conn) (state S.Store self.new.conn) result }
+        ensures searches { self.new.searches ≤ self.old.searches }
     {
         let Some(book) = &self.book else {
             return Err(Stop::Fault(Fault::Reopen));
@@ -252,16 +278,19 @@ impl<S: Alter, T: Timeline> Keeper<S, T> {
 
     /// Loads the book in the tables. The version in the heading is checked first: `OldVersion` if
     /// it is 1. `BadBook` if the eleven tables aren't exactly those of their accepted commands; the
-    /// keeper then still has the book that it had. Nothing is written.
+    /// keeper then still has the book that it had. Nothing is written. The book's network was then
+    /// searched once, and for each command at most as often as planning its change may.
     pub fn load(&mut self) -> Result<(), Stop>
-        ensures { Loads S.Store self.old self.new result }
+        ensures loads { Loads S.Store self.old self.new result }
+        ensures searches { SearchesOfLoad S.Store T.bound self.old self.new result }
     {
         self.load_with_progress(&mut Silent)
     }
 
     /// Loads the book in the tables, as [`Keeper::load`], and reports to `progress`.
     pub fn load_with_progress<P: Progress>(&mut self, progress: &mut P) -> Result<(), Stop>
-        ensures { Loads S.Store self.old self.new result }
+        ensures loads { Loads S.Store self.old self.new result }
+        ensures searches { SearchesOfLoad S.Store T.bound self.old self.new result }
     {
         crash_law::<S, S>();
         self.read_book(progress)
@@ -281,6 +310,7 @@ impl<S: Alter, T: Timeline> Keeper<S, T> {
             → self.old.conn.schema ≡ book_schema → Loaded S.Store self.old self.new result }
         ensures outdated { HasCleanDisk (state S.Store self.new.conn)
             → self.old.conn.schema ≡ old_schema → Outdated S.Store self.old self.new result }
+        ensures searches { SearchesOfLoad S.Store T.bound self.old self.new result }
     {
         prove!(self.conn.is_autocommit());
         // an open connection shows a complete database
@@ -318,6 +348,8 @@ impl<S: Alter, T: Timeline> Keeper<S, T> {
             → self.old.conn.schema ≡ book_schema → Audited S.Store self.old self.new result }
         ensures outdated { HasCleanDisk (state S.Store self.new.conn)
             → self.old.conn.schema ≡ old_schema → Outdated S.Store self.old self.new result }
+        // the network of the keeper's book is not searched
+        ensures searches { self.new.searches ≤ self.old.searches }
     {
         match audit_on::<S, T>(self.alloc, &mut self.conn) {
             Ok(found) => Ok(found),
@@ -359,6 +391,7 @@ impl<S: Alter, T: Timeline> Keeper<S, T> {
         ensures figures { SameFigures }
         ensures accepted { AcceptedByBoth }
         ensures crash { OldCrashLaw S.Store S.Store }
+        ensures searches { self.new.searches ≤ self.old.searches }
     {
         version_law();
         old_crash_law::<S, S>();
@@ -388,6 +421,7 @@ impl<S: Alter, T: Timeline> Keeper<S, T> {
             → Ties S.Store self.old b → IsSome self.old.book
             → MovesOut S.Store V.takes self.old self.new sink.old sink.new b result }
         ensures rows { MovesAreRows }
+        ensures searches { self.new.searches ≤ self.old.searches }
     {
         moves_law();
         if self.book.is_none() {
@@ -409,7 +443,14 @@ impl<S: Alter, T: Timeline> Keeper<S, T> {
     /// allocation.
     pub fn plan(&mut self, command: &Command) -> Result<Vec<u8>, Stop>
         ensures reopen { (self.old.book ≡ None) ↔ (result ≡ Err (Stop.Fault Fault.Reopen)) }
-        ensures same { self.new ≡ self.old }
+        ensures conn { self.new.conn ≡ self.old.conn }
+        ensures book { self.new.book ≡ self.old.book }
+        ensures unopened { self.old.book ≡ None → self.new ≡ self.old }
+        ensures searches { (s : BookState) → self.old.book ≡ Some s
+            → self.new.searches ≤ self.old.searches + most_searches T.bound s command.now }
+        // a refused command changes nothing at all
+        ensures same { (refusal : ARefusal) → result ≡ Err (AStop.Refused refusal)
+            → self.new ≡ self.old }
         ensures err { IsSome self.old.book → (fault : AFault) → result ≡ Err (AStop.Fault fault)
             → fault ≡ AFault.OutOfMemory }
         ensures refused { (b : BookState) → self.old.book ≡ Some b → (refusal : ARefusal)
@@ -425,7 +466,8 @@ impl<S: Alter, T: Timeline> Keeper<S, T> {
 
     /// The book. None until `create` or `load` has succeeded, and after a fault of the store.
     pub fn book(&self) -> Option<&Book<T>>
-        ensures { option_map (λ b. b.now.state) result ≡ self.now.book }
+        ensures state { option_map (λ b. b.now.state) result ≡ self.now.book }
+        ensures searches { IfSome result (λ b. b.now.searches ≡ self.now.searches) }
     {
         self.book.as_ref()
     }

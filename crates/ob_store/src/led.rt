@@ -1,10 +1,14 @@
 //! Replays the commands in the tables on a new book.
-ghost use Rattle.std.specs.Prelude.{◌≡◌, ◌⊎◌, false, true, is_some, IfOk, IfErr, IfSome};
+ghost use Rattle.std.specs.Prelude.{◌≡◌, ◌≤◌, ◌⊎◌, false, true, is_some, IfOk, IfErr, IfSome};
+ghost use Rattle.sqlite.specs.Held.{state};
+ghost use Rattle.sqlite.specs.State.{HasCleanDisk};
 ghost use Rattle.ob_base.specs.Stop.{out_of_memory};
 ghost use Rattle.ob_sql_read.specs.Reading.{bad_book};
+ghost use Rattle.ob_sql_rows.specs.Schema.{book_schema};
 ghost use Rattle.ob_sql_rows.specs.declared.version.Version.{Version as AVersion};
 ghost use Rattle.ob_store.specs.Finding.{Finds, HasNoBook};
 ghost use Rattle.ob_store.specs.Leading.{HasNoPeriodOf, IsBegun, IsLed, IsLedBy, IsNewBook, LeadsNowhere, MovesAre};
+ghost use Rattle.ob_store.specs.Searching.{IsSearchedBy, IsSearchedFor};
 
 use crate::named::{BAD_BOOK, Named, read_named};
 use ob_base::Stop;
@@ -31,6 +35,7 @@ pub(crate) struct Led<T: Timeline> {
 /// Creates a book of the period in the heading.
 fn new_book<T: Timeline>(alloc: Global, heading: &Heading) -> Result<Book<T>, Stop>
     ensures new { IfOk result (λ book. IsNewBook heading.now book.state) }
+    ensures searches { IfOk result (λ book. book.searches ≤ 1) }
     ensures none { IfErr result (λ stop. stop ≡ bad_book → HasNoPeriodOf heading.now) }
     ensures faults { IfErr result (λ stop. (stop ≡ bad_book) ⊎ (stop ≡ out_of_memory)) }
 {
@@ -49,6 +54,7 @@ fn new_book<T: Timeline>(alloc: Global, heading: &Heading) -> Result<Book<T>, St
 /// Creates a book of the heading's period, before the commands, with the layout of its network.
 fn begin<T: Timeline>(alloc: Global, named: &Named) -> Result<Led<T>, Stop>
     ensures begun { IfOk result (λ led. IsBegun named.now led.book.state led.layout) }
+    ensures searches { IfOk result (λ led. led.book.searches ≤ 1) }
     ensures counted { IfOk result (λ led. led.counted ≡ named.now.counted) }
     ensures moved { IfOk result (λ led. led.moved ≡ false) }
     ensures none { IfErr result (λ stop. stop ≡ bad_book → HasNoPeriodOf named.now.heading) }
@@ -82,6 +88,8 @@ pub(crate) fn follow<S: Alter, T: Timeline, P: Progress>(
         (λ led. IsLedBy version named.now led.book.state
         × (led.layout ≡ led.book.state.network) × (led.moved ≡ true)
         × (led.counted ≡ named.now.counted))) }
+    ensures searches { IfOk result (λ found. IfSome found
+        (λ led. IsSearchedBy T.bound named.now led.book.searches)) }
     ensures finds { Finds S.Store version (λ trees found. MovesAre version named.now trees
         (is_some found)) (λ _. HasNoPeriodOf named.now.heading) conn.old conn.new result }
 {
@@ -111,6 +119,7 @@ fn again<T: Timeline>(alloc: Global, named: &Named) -> Result<Led<T>, Stop>
     ensures led { IfOk result (λ led. IsLedBy AVersion.Two named.now led.book.state
         × (led.layout ≡ led.book.state.network) × (led.moved ≡ false)
         × (led.counted ≡ named.now.counted)) }
+    ensures searches { IfOk result (λ led. IsSearchedBy T.bound named.now led.book.searches) }
     ensures nowhere { IfErr result (λ stop. stop ≡ bad_book → LeadsNowhere named.now) }
     ensures faults { IfErr result (λ stop. (stop ≡ bad_book) ⊎ (stop ≡ out_of_memory)) }
 {
@@ -135,6 +144,9 @@ pub(crate) fn read_led<S: Alter, T: Timeline, P: Progress>(
     ensures layout { IfOk result (λ led. led.layout ≡ led.book.state.network) }
     ensures finds { Finds S.Store AVersion.Two (λ trees led. IsLed trees led.book.state led.counted
         led.moved) HasNoBook conn.old conn.new result }
+    ensures searches { HasCleanDisk (state S.Store conn.new)
+        → IfOk result (λ led. conn.old.schema ≡ book_schema
+        → IsSearchedFor T.bound (state S.Store conn.old).now.trees led.book.searches) }
 {
     next_law();
     naming_law();

@@ -22,7 +22,7 @@ mod stored;
 mod version;
 mod whole;
 
-pub use crash::{crash_law, left_law, load_law, old_crash_law};
+pub use crash::{crash_law, left_law, load_law, load_searches_law, old_crash_law};
 pub use keeper::Keeper;
 pub use moving::MoveSink;
 pub use ob_sql_read::{Progress, Silent, Work};

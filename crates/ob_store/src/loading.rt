@@ -1,10 +1,14 @@
 //! Loads the book in the tables, and finds the first table that differs from the book.
-ghost use Rattle.std.specs.Prelude.{◌≡◌, Ok};
+ghost use Rattle.std.specs.Prelude.{◌≡◌, IfOk, Ok};
+ghost use Rattle.sqlite.specs.Held.{state};
+ghost use Rattle.sqlite.specs.State.{HasCleanDisk};
+ghost use Rattle.ob_sql_rows.specs.Schema.{book_schema};
 ghost use Rattle.ob_sql_rows.specs.declared.version.Version.{Version as AVersion};
 ghost use Rattle.ob_store.specs.Finding.{Finds, HasNoBook};
 ghost use Rattle.ob_store.specs.Keeping.{Answers};
 ghost use Rattle.ob_store.specs.Leading.{IsLed};
 ghost use Rattle.ob_store.specs.Loading.{Finding, HoldsNoBook, Holding};
+ghost use Rattle.ob_store.specs.Searching.{IsSearchedFor};
 ghost use Rattle.ob_store.specs.Versions.{Tells};
 
 use crate::led::{Led, read_led};
@@ -52,8 +56,9 @@ fn find_off<S: Alter, T: Timeline>(
 /// written.
 fn check_led<S: Alter, T: Timeline>(conn: &mut Connection<S>, led: &Led<T>) -> Result<(), Stop>
     requires layout { led.now.layout ≡ led.now.book.state.network }
+    ensures clean { HasCleanDisk (state S.Store conn.new) → HasCleanDisk (state S.Store conn.old) }
     // if the replayed book was read from the same tables before
-    ensures { (first : _) → Finds S.Store AVersion.Two
+    ensures finds { (first : _) → Finds S.Store AVersion.Two
         (λ trees l. IsLed trees l.book.state l.counted l.moved) HasNoBook first conn.old
         (Ok led.now) → Finds S.Store AVersion.Two (λ trees done. Holding trees led.now.book.state)
         HoldsNoBook first conn.new result }
@@ -80,6 +85,9 @@ pub(crate) fn load_on<S: Alter, T: Timeline, P: Progress>(
     ensures tells { Tells S.Store (λ trees book. Holding trees book.state) HoldsNoBook conn.old
         conn.new result }
     ensures answers { Answers S.Store conn.old conn.new result }
+    ensures searches { HasCleanDisk (state S.Store conn.new)
+        → IfOk result (λ book. conn.old.schema ≡ book_schema
+        → IsSearchedFor T.bound (state S.Store conn.old).now.trees book.searches) }
 {
     match check_version(conn) {
         Ok(()) => load_tables(alloc, conn, progress),
@@ -93,8 +101,11 @@ fn load_tables<S: Alter, T: Timeline, P: Progress>(
     conn: &mut Connection<S>,
     progress: &mut P,
 ) -> Result<Book<T>, Stop>
-    ensures { Finds S.Store AVersion.Two (λ trees book. Holding trees book.state) HoldsNoBook
+    ensures finds { Finds S.Store AVersion.Two (λ trees book. Holding trees book.state) HoldsNoBook
         conn.old conn.new result }
+    ensures searches { HasCleanDisk (state S.Store conn.new)
+        → IfOk result (λ book. conn.old.schema ≡ book_schema
+        → IsSearchedFor T.bound (state S.Store conn.old).now.trees book.searches) }
 {
     let led: Led<T> = match read_led(alloc, conn, progress) {
         Ok(led) => led,

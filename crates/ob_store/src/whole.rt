@@ -1,13 +1,15 @@
 //! Applies a list of commands in one transaction: all of them, or none.
-ghost use Rattle.std.specs.Prelude.{◌≡◌, ◌≤◌, ◌<◌, if◌then◌else◌, false, None, length, Ok, IsTrue, IfErr, IfOk, OnOk};
+ghost use Rattle.std.specs.Prelude.{◌≡◌, ◌≤◌, ◌<◌, ◌+◌, if◌then◌else◌, false, None, length, Ok, IsTrue, IfErr, IfOk, OnOk};
 ghost use Rattle.sqlite.specs.Held.{state};
 ghost use Rattle.sqlite.specs.State.{HasCleanDisk, Survives};
 ghost use Rattle.ob_book.specs.Acts.{ActState, number_of};
+ghost use Rattle.ob_book.specs.Searches.{searches_of_act};
 ghost use Rattle.ob_command.specs.Commands.{IsCommand, body_text as body_text_of};
 ghost use Rattle.ob_sql_rows.specs.Steps.{HasFaultCause, Silent};
 ghost use Rattle.ob_sql_write.specs.Keeps.{KeepsNumbers};
-ghost use Rattle.ob_store.specs.Acting.{IsActStop};
+ghost use Rattle.ob_store.specs.Acting.{IsActStop, under};
 ghost use Rattle.ob_store.specs.Keeping.{KeepsBook};
+ghost use Rattle.ob_store.specs.Searching.{searches_of_line, searches_of_lines};
 ghost use Rattle.ob_store.specs.Whole.{ActsAll, HasListCause, HasLineCause, IsWhole, LeavesLast, ShowsBook, Tries, TriesAll};
 
 use ob_base::{Fault, Ref, Refusal, Stop};
@@ -52,6 +54,9 @@ fn enter<S: Alter, T: Timeline>(
         → ShowsBook (state S.Store tx.old.conn.now) b → IsWhole (state S.Store tx.old.conn.now)
         → book.old.state ≡ b.book → number_of b reference.now ≡ None
         → HasFaultCause (state S.Store tx.old.conn.now) (state S.Store tx.new.conn.now) result }
+    ensures searched { (b : ActState) → book.old.state ≡ b.book
+        → number_of b reference.now ≡ None → book.new.searches ≤ book.old.searches
+        + searches_of_act T.bound b (under reference.now command.now) }
 {
     reached_law();
     let plan = match book.decide(command) {
@@ -94,6 +99,10 @@ fn act_within<S: Alter, T: Timeline>(
         → ShowsBook (state S.Store tx.old.conn.now) b → IsWhole (state S.Store tx.old.conn.now)
         → book.old.state ≡ b.book
         → HasFaultCause (state S.Store tx.old.conn.now) (state S.Store tx.new.conn.now) result }
+    ensures searched { HasCleanDisk (state S.Store tx.new.conn.now) → (b : ActState)
+        → ShowsBook (state S.Store tx.old.conn.now) b → book.old.state ≡ b.book
+        → book.new.searches ≤ book.old.searches + searches_of_act T.bound b
+        (under reference.now command.now) }
 {
     reached_law();
     naming_law();
@@ -135,6 +144,9 @@ fn act_line<S: Alter, T: Timeline>(
         → ShowsBook (state S.Store tx.old.conn.now) b → IsWhole (state S.Store tx.old.conn.now)
         → book.old.state ≡ b.book
         → HasFaultCause (state S.Store tx.old.conn.now) (state S.Store tx.new.conn.now) result }
+    ensures searched { HasCleanDisk (state S.Store tx.new.conn.now) → (b : ActState)
+        → ShowsBook (state S.Store tx.old.conn.now) b → book.old.state ≡ b.book
+        → book.new.searches ≤ book.old.searches + searches_of_line T.bound b line.now }
 {
     match line {
         Ok(said) => act_within(alloc, tx, book, &said.0, &said.1),
@@ -175,6 +187,10 @@ fn act_lines<S: Alter, T: Timeline, P: Progress>(
         → ShowsBook (state S.Store tx.old.conn.now) b → IsWhole (state S.Store tx.old.conn.now)
         → book.old.state ≡ b.book
         → HasLineCause (state S.Store tx.old.conn.now) (state S.Store tx.new.conn.now) result }
+    ensures searched { HasCleanDisk (state S.Store tx.new.conn.now) → (b : ActState)
+        → ShowsBook (state S.Store tx.old.conn.now) b → book.old.state ≡ b.book
+        → OnOk result (book.new.searches ≤ book.old.searches
+        + searches_of_lines T.bound b list.now) }
 {
     let mut added = 0usize;
     'lines: for place in 0..list.len() {
@@ -213,6 +229,10 @@ pub(crate) fn act_all_on<S: Alter, T: Timeline, P: Progress>(
         → KeepsNumbers (state S.Store conn.new) }
     ensures survives { Survives (state S.Store conn.old) (state S.Store conn.new)
         (LeavesLast (state S.Store conn.old) book.old.state list.now) }
+    ensures searched { HasCleanDisk (state S.Store conn.new) → (b : ActState)
+        → KeepsBook (state S.Store conn.old) b → book.old.state ≡ b.book
+        → OnOk result (book.new.searches ≤ book.old.searches
+        + searches_of_lines T.bound b list.now) }
 {
     if list.is_empty() {
         return Ok(0);

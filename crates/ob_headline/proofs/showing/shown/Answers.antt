@@ -5,4 +5,4 @@ use Rattle.ob_headline.proofs.showing.shown.Goals as goal
 
 pub returns-in-Ok-clause-headline : goal.returns-in-Ok-clause-headline
 returns-in-Ok-clause-headline g c =
-    λ b ties. c.in-Ok.ensures.headline b ties.kept.reached (subst (λ (o : Option BookState). IfSome o (λ s. s ≡ b.book)) (sym c.in-Some.ensures) ties.book)
+    λ b ties. c.in-Ok.ensures.headline b ties.kept.reached (subst (λ (o : Option BookState). IfSome o (λ s. s ≡ b.book)) (sym c.in-Some.ensures.state) ties.book)

@@ -11,11 +11,11 @@ use Rattle.ob_jobs.proofs.import_whole.import_whole_into_book.Goals as goal
 pub returns-in_err-load_with_progress : goal.returns-in_err-load_with_progress
 returns-in_err-load_with_progress g c =
     let p = err_from_is_err_and c.from_residual.result c.from_residual.ensures.1 in
-    (Err c.in_err-load_with_progress.field-0.0, p.1 ∙ ap Err p.2, inl (c.in_err-load_with_progress.field-0.0, c.in_err-load_with_progress.ensures, refl, (refl, refl)))
+    (Err c.in_err-load_with_progress.field-0.0, p.1 ∙ ap Err p.2, inl (c.in_err-load_with_progress.field-0.0, c.in_err-load_with_progress.ensures.loads, refl, (refl, refl)))
 
 pub returns-in_default : goal.returns-in_default
 returns-in_default g c =
-    (_, ap Err c.from.ensures, inr (c.load_with_progress.new.self, c.in_ok-load_with_progress.ensures, inl (c.in_default.ensures, refl, (refl, refl))))
+    (_, ap Err c.from.ensures, inr (c.load_with_progress.new.self, c.in_ok-load_with_progress.ensures.loads, inl (c.in_default.ensures, refl, (refl, refl))))
 
 pub returns-in-Ok : goal.returns-in-Ok
 returns-in-Ok g c =
@@ -26,7 +26,7 @@ returns-in-Ok g c =
       c.end_of_import.ensures,
       inr (
         c.load_with_progress.new.self,
-        c.in_ok-load_with_progress.ensures,
+        c.in_ok-load_with_progress.ensures.loads,
         inr (
           c.new-reader.result,
           subst (λ opened. g.O.OpenInput.opens c.args.input.now (Some opened) c.open.new.self) (sym c.new-reader.ensures.inner) c.in-Some.ensures,
@@ -45,7 +45,7 @@ returns g c =
       ap Err c.from-in-Err.ensures,
       inr (
         c.load_with_progress.new.self,
-        c.in_ok-load_with_progress.ensures,
+        c.in_ok-load_with_progress.ensures.loads,
         inr (
           c.new-reader.result,
           subst (λ opened. g.O.OpenInput.opens c.args.input.now (Some opened) c.open.new.self) (sym c.new-reader.ensures.inner) c.in-Some.ensures,

@@ -5,11 +5,11 @@ use Rattle.ob_jobs.proofs.interruptions.interruptions_from_book.Goals as goal
 pub returns-in_err-load_with_progress : goal.returns-in_err-load_with_progress
 returns-in_err-load_with_progress g c =
     let p = err_from_is_err_and c.from_residual.result c.from_residual.ensures.1 in
-    (Err c.in_err-load_with_progress.field-0.0, p.1 ∙ ap Err p.2, inl (c.in_err-load_with_progress.field-0.0, c.in_err-load_with_progress.ensures, refl, (refl, refl)))
+    (Err c.in_err-load_with_progress.field-0.0, p.1 ∙ ap Err p.2, inl (c.in_err-load_with_progress.field-0.0, c.in_err-load_with_progress.ensures.loads, refl, (refl, refl)))
 
 pub returns-in_default : goal.returns-in_default
 returns-in_default g c =
-    (_, ap Err c.from.ensures, inr (c.load_with_progress.new.self, c.in_ok-load_with_progress.ensures, (refl, inl (c.in_default.ensures, refl, refl))))
+    (_, ap Err c.from.ensures, inr (c.load_with_progress.new.self, c.in_ok-load_with_progress.ensures.loads, (refl, inl (c.in_default.ensures, refl, refl))))
 
 pub returns : goal.returns
 returns g c = (
@@ -17,7 +17,7 @@ returns g c = (
   c.end_of_job.ensures,
   inr (
     c.load_with_progress.new.self,
-    c.in_ok-load_with_progress.ensures,
+    c.in_ok-load_with_progress.ensures.loads,
     (
       refl,
       inr (

@@ -5,4 +5,4 @@ use Rattle.ob_jobs.proofs.table.run_table.Goals as goal
 pub returns-in-Ok : goal.returns-in-Ok
 returns-in-Ok g c =
     printed g.W.Write.contents c.args.writer.now c.tell.new.writer c.args.keeper.now.book c.in-Some.book.now.state
-    c.as_slice.result.now c.tell.result (sym c.in-Some.ensures) (c.as_slice.ensures.value ∙ c.in-Ok.ensures.text) c.tell.ensures
+    c.as_slice.result.now c.tell.result (sym c.in-Some.ensures.state) (c.as_slice.ensures.value ∙ c.in-Ok.ensures.text) c.tell.ensures

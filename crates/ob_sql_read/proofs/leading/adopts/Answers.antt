@@ -1,4 +1,4 @@
-use Rattle.std.proofs.Common.{Ok, is_some, sym, ap, ap₂, ◌∙◌, true≢false, refl}
+use Rattle.std.proofs.Common.{arith, Ok, is_some, sym, ap, ap₂, ◌∙◌, true≢false, refl}
 use Rattle.ob_state.specs.Refusals.{refusal}
 use Rattle.ob_state.specs.Next.{next}
 use Rattle.ob_state.specs.State.{BookState}
@@ -29,3 +29,9 @@ adopt-requires-clause-room g c = (rw c.in-Some.is at c.in_ok-plan.ensures).room
 
 pub adopt-requires-clause-plan : goal.adopt-requires-clause-plan
 adopt-requires-clause-plan g c = (rw c.in-Some.is at c.in_ok-plan.ensures).plan
+
+pub returns-in_default-clause-searches : goal.returns-in_default-clause-searches
+returns-in_default-clause-searches g c = c.decide_noting.ensures.searches
+
+pub returns-clause-searches : goal.returns-clause-searches
+returns-clause-searches g c = omega (arith, c.adopt.ensures.searches, c.decide_noting.ensures.searches)

@@ -18,6 +18,7 @@ use Rattle.ob_sql_read.proofs.Passing.{clean_before, no_is_no, unchanged_after}
 use Rattle.ob_sql_read.proofs.Rowing.{leads, expected, leads_on, front_more, leads_here, all_given, off_all, over, if_ok_and, moved_is}
 use Rattle.ob_sql_read.proofs.Failing.{answered_over, cause_of_error}
 use Rattle.ob_sql_rows.proofs.Failing.{cause_after, failed_after}
+use Rattle.ob_sql_read.proofs.Searching.{left_from, left_on, left_one}
 use Rattle.ob_sql_read.proofs.moves.follows.Goals as goal
 
 pub overflow_cast-no : goal.overflow_cast-no
@@ -59,6 +60,9 @@ commands-preserved g c =
                 ),
           ),
       λ v t keeps. step.kept v t (c.commands.invariant.7 v t keeps),
+      (let one = left_on g.T.Timeline.bound b list c.commands.at f low here in
+          let others = left_from g.T.Timeline.bound c.takes_on.new.book.state (next b f.command) (drop (c.commands.at + 1) list) next_is in
+          omega (arith, one, others, step.searches, c.commands.invariant.8)),
     )
 
 pub returns-then-not-branch-clause-moved : goal.returns-then-not-branch-clause-moved
@@ -184,3 +188,22 @@ returns-clause-cause g c late live v has given =
     let there = ap (λ (d : Database). d.schema) (was.0 live).0.now_is ∙ has in
     cause_after old mid new _ _ c.is_over.result c.commands.invariant.1 early c.is_over.ensures.survives
     (c.is_over.ensures.cause late moved_listing.text (answered_over moved_listing (moved_is v) there) at.0 at.1)
+
+pub returns-then-not-branch-clause-searches : goal.returns-then-not-branch-clause-searches
+returns-then-not-branch-clause-searches g c =
+    let list = c.args.commands.now in
+    let f = get_or list c.commands.at c.index-commands-at.result in
+    let here : f ≡ get_or list c.commands.at f = ap (λ (d : Filed). get_or list c.commands.at d) c.index-commands-at.is in
+    let low : c.commands.at < length list = omega (arith, c.commands-test.true) in
+    omega (arith, left_one g.T.Timeline.bound c.commands.book.state list c.commands.at f low here, c.takes_on.ensures.searches, c.commands.invariant.8)
+
+pub returns-in_err-takes_on-clause-searches : goal.returns-in_err-takes_on-clause-searches
+returns-in_err-takes_on-clause-searches g c =
+    let list = c.args.commands.now in
+    let f = get_or list c.commands.at c.index-commands-at.result in
+    let here : f ≡ get_or list c.commands.at f = ap (λ (d : Filed). get_or list c.commands.at d) c.index-commands-at.is in
+    let low : c.commands.at < length list = omega (arith, c.commands-test.true) in
+    omega (arith, left_one g.T.Timeline.bound c.commands.book.state list c.commands.at f low here, c.takes_on.ensures.searches, c.commands.invariant.8)
+
+pub returns-clause-searches : goal.returns-clause-searches
+returns-clause-searches g c = omega (arith, c.commands.invariant.8)

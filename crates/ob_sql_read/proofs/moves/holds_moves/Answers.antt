@@ -170,3 +170,12 @@ returns-clause-cause g c clean v has =
     let ready = c.in-Ok.ensures.prepared early in
     asked_cause old mid end _ moved_listing.text c.in-Ok.statement.text c.in-Err-query_prepared.error c.stop_of.result c.stop_of.ensures.memory (answered_over moved_listing (moved_is v) has) (ready.0 ∙ c.select_of.ensures, ready.1)
     c.prepare.ensures.survives early refused.survives (refused.err clean)
+
+pub returns-in-Err-clause-searches : goal.returns-in-Err-clause-searches
+returns-in-Err-clause-searches g c = omega arith
+
+pub returns-in-Ok-query_prepared-clause-searches : goal.returns-in-Ok-query_prepared-clause-searches
+returns-in-Ok-query_prepared-clause-searches g c = c.follows.ensures.searches
+
+pub returns-clause-searches : goal.returns-clause-searches
+returns-clause-searches g c = omega arith

@@ -1,4 +1,4 @@
-use Rattle.std.proofs.Common.{◌≡◌, List, [], ◌++◌, Ok, is_some, sym, ap, ap₂, subst, ◌∙◌, true≢false}
+use Rattle.std.proofs.Common.{◌≡◌, arith, List, [], ◌++◌, Ok, is_some, sym, ap, ap₂, subst, ◌∙◌, true≢false}
 use Rattle.sqlite.specs.Held.{state}
 use Rattle.sqlite.specs.Given.{HasGiven}
 use Rattle.ob_book.specs.Plans.{PlanState}
@@ -150,3 +150,18 @@ pub returns-in_err-matches-clause-cause : goal.returns-in_err-matches-clause-cau
 returns-in_err-matches-clause-cause g c late live v has given it =
     cause_of_error (state g.S.Store c.args.rows.now.conn.now) (state g.S.Store c.matches.new.rows.conn.now) c.from_residual-in_err-matches.result _ c.from_residual-in_err-matches.ensures.1
     (c.in_err-matches.ensures.cause late live v has given it)
+
+pub returns-then-not-fits-clause-searches : goal.returns-then-not-fits-clause-searches
+returns-then-not-fits-clause-searches g c = omega arith
+
+pub returns-in_default-clause-searches : goal.returns-in_default-clause-searches
+returns-in_default-clause-searches g c = c.decide_noting.ensures.searches
+
+pub returns-then-not-branch-clause-searches : goal.returns-then-not-branch-clause-searches
+returns-then-not-branch-clause-searches g c = c.decide_noting.ensures.searches
+
+pub returns-in_err-matches-clause-searches : goal.returns-in_err-matches-clause-searches
+returns-in_err-matches-clause-searches g c = c.decide_noting.ensures.searches
+
+pub returns-clause-searches : goal.returns-clause-searches
+returns-clause-searches g c = omega (arith, c.adopt.ensures.searches, c.decide_noting.ensures.searches)

@@ -1,15 +1,17 @@
-use Rattle.std.proofs.Common.{◌≡◌, ◌+◌, None, Ok, Err, sym, ap, ap₂, subst, ◌∙◌}
+use Rattle.std.proofs.Common.{◌≡◌, ◌+◌, arith, None, Ok, Err, sym, ap, ap₂, subst, ◌∙◌}
 use Rattle.sqlite.specs.Held.{state}
 use Rattle.ob_post.specs.MoveLaws.{AreSmall}
 use Rattle.ob_state.specs.Amounts.{amount, moves}
 use Rattle.ob_state.specs.Next.{next}
 use Rattle.ob_state.specs.Refusals.{refusal}
+use Rattle.ob_state.specs.States.{BookValue}
 use Rattle.ob_record.specs.Leading.{Records}
 use Rattle.ob_record.specs.Naming.{IsReferenced}
 use Rattle.ob_store.specs.Acting.{under}
 use Rattle.ob_record.specs.Tables.{tables_of}
 use Rattle.ob_store.proofs.Faults.{any_still, as_any}
 use Rattle.ob_store.proofs.Accepting.{answered, book_is, caused, decided, done, failed, none_told}
+use Rattle.ob_store.proofs.Searching.{accepted_searched, decided_searched}
 use Rattle.ob_store.proofs.acting.accept.Goals as goal
 
 pub returns-in-Err-clause-acts : goal.returns-in-Err-clause-acts
@@ -103,3 +105,27 @@ returns-in-Ok-commit_act-clause-survives g c = as_any (state g.S.Store c.args.co
 
 pub returns-in-Err-commit_act-clause-survives : goal.returns-in-Err-commit_act-clause-survives
 returns-in-Err-commit_act-clause-survives g c = as_any (state g.S.Store c.args.conn.now) (state g.S.Store c.commit_act.new.conn) _ c.commit_act.ensures.survives
+
+-- a refused command was not searched for
+pub returns-in-Err-clause-searched : goal.returns-in-Err-clause-searched
+returns-in-Err-clause-searched g c b same fresh =
+    decided_searched g.T.Timeline.bound b (under c.args.reference.now c.args.command.now) fresh c.args.book.now.state same c.args.book.now.searches c.decide.new.self.searches c.decide.ensures.searches
+    (λ r is. ap (λ (v : BookValue). v.searches) (c.in-Err.ensures.same r ((c.in-Err.ensures.refused r).1 is)))
+
+pub returns-in-Err-from_slice-clause-searched : goal.returns-in-Err-from_slice-clause-searched
+returns-in-Err-from_slice-clause-searched g c b same fresh =
+    let at : c.decide.new.self.state ≡ b.book = c.decide.ensures.state ∙ same in
+    let free : refusal b.book c.args.command.now ≡ None = sym (ap₂ refusal at c.in-Ok.ensures.command) ∙ c.in-Ok.ensures.plan.accepted in
+    accepted_searched g.T.Timeline.bound b (under c.args.reference.now c.args.command.now) fresh c.args.book.now.state same c.args.book.now.searches c.decide.new.self.searches c.decide.ensures.searches free
+
+pub returns-in-Ok-commit_act-clause-searched : goal.returns-in-Ok-commit_act-clause-searched
+returns-in-Ok-commit_act-clause-searched g c b same fresh =
+    let at : c.decide.new.self.state ≡ b.book = c.decide.ensures.state ∙ same in
+    let free : refusal b.book c.args.command.now ≡ None = sym (ap₂ refusal at c.in-Ok.ensures.command) ∙ c.in-Ok.ensures.plan.accepted in
+    accepted_searched g.T.Timeline.bound b (under c.args.reference.now c.args.command.now) fresh c.args.book.now.state same c.args.book.now.searches c.adopt.new.self.searches (omega (arith, c.adopt.ensures.searches, c.decide.ensures.searches)) free
+
+pub returns-in-Err-commit_act-clause-searched : goal.returns-in-Err-commit_act-clause-searched
+returns-in-Err-commit_act-clause-searched g c b same fresh =
+    let at : c.decide.new.self.state ≡ b.book = c.decide.ensures.state ∙ same in
+    let free : refusal b.book c.args.command.now ≡ None = sym (ap₂ refusal at c.in-Ok.ensures.command) ∙ c.in-Ok.ensures.plan.accepted in
+    accepted_searched g.T.Timeline.bound b (under c.args.reference.now c.args.command.now) fresh c.args.book.now.state same c.args.book.now.searches c.decide.new.self.searches c.decide.ensures.searches free

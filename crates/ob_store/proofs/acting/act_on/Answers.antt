@@ -119,3 +119,9 @@ returns-in-Ok-Other-clause-survives g c = as_any (state g.S.Store c.args.conn.no
 
 pub returns-clause-survives : goal.returns-clause-survives
 returns-clause-survives g c = as_any (state g.S.Store c.args.conn.now) (state g.S.Store c.look_up.new.conn) (λ _. ⊥) c.look_up.ensures.survives
+
+pub returns-in-Ok-New-clause-searched : goal.returns-in-Ok-New-clause-searched
+returns-in-Ok-New-clause-searched g c clean b keeps same =
+    let mid : HasCleanDisk (state g.S.Store c.look_up.new.conn) = c.accept.ensures.clean clean in
+    let rows = rw (c.bytes.ensures.value, c.in-Ok-New.field-0-is) at (c.in-Ok-New.ensures.found mid (tables_of b) keeps.kept) in
+    c.accept.ensures.searched b same (is_new c.args.reference.now b rows)

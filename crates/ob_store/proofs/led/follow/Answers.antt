@@ -4,6 +4,7 @@ use Rattle.ob_store.specs.Finding.{Finds}
 use Rattle.ob_store.specs.Leading.{HasNoPeriodOf, MovesAre}
 use Rattle.ob_store.proofs.Reading.{none_read, read_err, read_ok, then_good}
 use Rattle.ob_store.proofs.Leading.{led_by, moves_found}
+use Rattle.ob_store.proofs.Searching.{searched_by}
 use Rattle.ob_store.proofs.led.follow.Goals as goal
 
 pub returns-in-Err-clause-finds : goal.returns-in-Err-clause-finds
@@ -52,3 +53,7 @@ returns-in-Err-holds_moves-clause-finds g c =
     let it = c.args.named.now in
     let e = c.in-Err-holds_moves.ensures in
     read_err g.S.Store c.args.version (λ trees found. MovesAre c.args.version it trees (is_some found)) (λ _. HasNoPeriodOf it.heading) c.args.conn.now c.holds_moves.new.conn c.in-Err-holds_moves.stop e.mode e.survives e.clean (e.kept c.args.version) e.faults (λ clean. e.cause clean c.args.version) (λ clean bad. e.foreign clean bad c.args.version)
+
+pub returns-in-Ok-true-clause-searches : goal.returns-in-Ok-true-clause-searches
+returns-in-Ok-true-clause-searches g c =
+    searched_by g.T.Timeline.bound c.args.named.now c.in-Ok.led.book.state c.in-Ok.ensures.begun.new c.deref.result.now c.deref.ensures.value c.holds_moves.new.book.searches c.in-Ok.led.book.searches c.in-Ok.ensures.searches c.holds_moves.ensures.searches

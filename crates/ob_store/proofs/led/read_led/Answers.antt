@@ -1,4 +1,5 @@
 use Rattle.std.proofs.Common.{List, is_some, true≢false, sym, ap, subst, ◌∙◌}
+use Rattle.sqlite.specs.Held.{state}
 use Rattle.ob_sql_read.specs.declared.filed.Filed.{Filed}
 use Rattle.ob_sql_read.specs.Listing.{filed_of}
 use Rattle.ob_sql_read.specs.Distinct.{AreDistinct}
@@ -9,6 +10,7 @@ use Rattle.ob_store.specs.Leading.{IsLed}
 use Rattle.ob_store.proofs.Laws.{laws_now as laws_of}
 use Rattle.ob_store.proofs.Reading.{fails}
 use Rattle.ob_store.proofs.Leads.{led_at, led_fails, led_no_memory, led_nowhere, led_twice}
+use Rattle.ob_store.proofs.Searching.{searched_for}
 use Rattle.ob_store.proofs.led.read_led.Goals as goal
 
 pub returns-in-Err-clause-finds : goal.returns-in-Err-clause-finds
@@ -51,3 +53,15 @@ pub returns-clause-finds : goal.returns-clause-finds
 returns-clause-finds g c =
     led_fails g.S.Store (λ (l : Led g.row.T.Denot). l.book.state) (λ (l : Led g.row.T.Denot). l.counted) (λ (l : Led g.row.T.Denot). l.moved) c.in-Ok.named c.args.conn.now c.read_named.new.conn c.in-Ok.ensures.finds (laws_of c.naming_law.ensures.few c.reaching_law.ensures.accepted c.reaching_law.ensures.reached c.reaching_law.ensures.moved c.next_law.ensures.period (c.reaching_law.ensures.ordered Two))
     c.follow.new.conn c.in-Err-follow.stop c.in-Err-follow.ensures.finds
+
+pub returns-in-Ok-Some-clause-searches : goal.returns-in-Ok-Some-clause-searches
+returns-in-Ok-Some-clause-searches g c clean schema =
+    let named = c.in-Ok.ensures.finds.good (c.in-Ok-Some.ensures.finds.clean clean) schema in
+    searched_for g.T.Timeline.bound (laws_of c.naming_law.ensures.few c.reaching_law.ensures.accepted c.reaching_law.ensures.reached c.reaching_law.ensures.moved c.next_law.ensures.period (c.reaching_law.ensures.ordered Two))
+    (state g.S.Store c.args.conn.now).now.trees c.in-Ok.named named c.in-Ok-Some.led.book.searches (rw c.in-Ok-Some.field-0-is at c.in-Ok-Some.ensures.searches)
+
+pub returns-in-Ok-again-clause-searches : goal.returns-in-Ok-again-clause-searches
+returns-in-Ok-again-clause-searches g c clean schema =
+    let named = c.in-Ok.ensures.finds.good (c.in-Ok-None.ensures.finds.clean clean) schema in
+    searched_for g.T.Timeline.bound (laws_of c.naming_law.ensures.few c.reaching_law.ensures.accepted c.reaching_law.ensures.reached c.reaching_law.ensures.moved c.next_law.ensures.period (c.reaching_law.ensures.ordered Two))
+    (state g.S.Store c.args.conn.now).now.trees c.in-Ok.named named c.in-Ok-again.led.book.searches c.in-Ok-again.ensures.searches

@@ -1,4 +1,4 @@
-use Rattle.std.proofs.Common.{◌≢◌, Ok, Err, inl, inr, refl, sym, subst, ◌∙◌}
+use Rattle.std.proofs.Common.{◌≢◌, [], Ok, Err, inl, inr, refl, sym, subst, ◌∙◌}
 use Rattle.ob_base.specs.declared.stop.Stop.{Stop}
 use Rattle.std.specs.Prelude.{⊤}
 use Rattle.ob_sql_rows.specs.Steps.{IsStoreFault}
@@ -12,17 +12,17 @@ use Rattle.ob_store.proofs.Reading.{read_err, read_ok}
 use Rattle.ob_store.proofs.Found.{Apart, apart_err, broken, found_err, found_off, loads}
 use Rattle.ob_store.proofs.loading.check_led.Goals as goal
 
-pub returns-in-Ok-Some : goal.returns-in-Ok-Some
-returns-in-Ok-Some g c first read =
+pub returns-in-Ok-Some-clause-finds : goal.returns-in-Ok-Some-clause-finds
+returns-in-Ok-Some-clause-finds g c first read =
     found_off g.S.Store (λ (l : Led g.row.T.Denot). l.book.state) (λ (l : Led g.row.T.Denot). l.counted) (λ (l : Led g.row.T.Denot). l.moved) c.args.led.now first c.args.conn.now c.first_off.new.conn read (λ trees (done : ⊤). Holding trees c.args.led.now.book.state) _
     (λ b is. subst (λ o. Finds g.S.Store Two (IsFirstOff b c.args.led.now.counted c.args.led.now.moved) NoneSo c.args.conn.now c.first_off.new.conn (Ok o)) c.in-Ok-Some.field-0-is (c.in-Ok-Some.ensures b is))
 
-pub returns-in-Err : goal.returns-in-Err
-returns-in-Err g c first read =
+pub returns-in-Err-clause-finds : goal.returns-in-Err-clause-finds
+returns-in-Err-clause-finds g c first read =
     found_err g.S.Store (λ (l : Led g.row.T.Denot). l.book.state) (λ (l : Led g.row.T.Denot). l.counted) (λ (l : Led g.row.T.Denot). l.moved) c.args.led.now first c.args.conn.now c.first_off.new.conn read (λ trees (done : ⊤). Holding trees c.args.led.now.book.state) HoldsNoBook c.in-Err.stop c.in-Err.ensures
 
-pub returns-in-Ok-true : goal.returns-in-Ok-true
-returns-in-Ok-true g c first read =
+pub returns-in-Ok-true-clause-finds : goal.returns-in-Ok-true-clause-finds
+returns-in-Ok-true-clause-finds g c first read =
     let e = c.in-Ok-true.ensures in
     let mid = c.first_off.new.conn in
     let end = c.are_apart.new.conn in
@@ -31,8 +31,8 @@ returns-in-Ok-true g c first read =
     (λ b is. subst (λ o. Finds g.S.Store Two (IsFirstOff b c.args.led.now.counted c.args.led.now.moved) NoneSo c.args.conn.now mid (Ok o)) c.in-Ok-None.field-0-is (c.in-Ok-None.ensures b is))
     (λ (done : ⊤). c.args.led.now.book.state) tt refl c.in-Ok-true.field-0 c.in-Ok-true.field-0-test third
 
-pub returns-in-Ok-false : goal.returns-in-Ok-false
-returns-in-Ok-false g c first read =
+pub returns-in-Ok-false-clause-finds : goal.returns-in-Ok-false-clause-finds
+returns-in-Ok-false-clause-finds g c first read =
     let e = c.in-Ok-false.ensures in
     let mid = c.first_off.new.conn in
     let end = c.are_apart.new.conn in
@@ -45,8 +45,8 @@ no_other : (stop : Stop) → IsStoreFault stop → stop ≢ bad_book
 no_other stop (inl memory) bad = absurd (let e = sym memory ∙ bad in cc)
 no_other stop (inr store) bad = absurd (let e = sym store ∙ bad in cc)
 
-pub returns-in-Err-are_apart : goal.returns-in-Err-are_apart
-returns-in-Err-are_apart g c first read =
+pub returns-in-Err-are_apart-clause-finds : goal.returns-in-Err-are_apart-clause-finds
+returns-in-Err-are_apart-clause-finds g c first read =
     let it = c.in-Err-are_apart in
     let e = it.ensures in
     let mid = c.first_off.new.conn in
@@ -55,3 +55,18 @@ returns-in-Err-are_apart g c first read =
     apart_err g.S.Store (λ (l : Led g.row.T.Denot). l.book.state) (λ (l : Led g.row.T.Denot). l.counted) (λ (l : Led g.row.T.Denot). l.moved) c.args.led.now first c.args.conn.now mid read end
     (λ b is. subst (λ o. Finds g.S.Store Two (IsFirstOff b c.args.led.now.counted c.args.led.now.moved) NoneSo c.args.conn.now mid (Ok o)) c.in-Ok-None.field-0-is (c.in-Ok-None.ensures b is))
     (λ trees (done : ⊤). Holding trees c.args.led.now.book.state) HoldsNoBook it.stop third
+
+pub returns-in-Ok-Some-clause-clean : goal.returns-in-Ok-Some-clause-clean
+returns-in-Ok-Some-clause-clean g c = (c.in-Ok-Some.ensures (record { book = c.args.led.now.book.state; accepted = [] }) refl).clean
+
+pub returns-in-Err-clause-clean : goal.returns-in-Err-clause-clean
+returns-in-Err-clause-clean g c = (c.in-Err.ensures (record { book = c.args.led.now.book.state; accepted = [] }) refl).clean
+
+pub returns-in-Ok-true-clause-clean : goal.returns-in-Ok-true-clause-clean
+returns-in-Ok-true-clause-clean g c clean = (c.in-Ok-None.ensures (record { book = c.args.led.now.book.state; accepted = [] }) refl).clean (c.in-Ok-true.ensures.clean clean)
+
+pub returns-in-Ok-false-clause-clean : goal.returns-in-Ok-false-clause-clean
+returns-in-Ok-false-clause-clean g c clean = (c.in-Ok-None.ensures (record { book = c.args.led.now.book.state; accepted = [] }) refl).clean (c.in-Ok-false.ensures.clean clean)
+
+pub returns-in-Err-are_apart-clause-clean : goal.returns-in-Err-are_apart-clause-clean
+returns-in-Err-are_apart-clause-clean g c clean = (c.in-Ok-None.ensures (record { book = c.args.led.now.book.state; accepted = [] }) refl).clean (c.in-Err-are_apart.ensures.clean clean)

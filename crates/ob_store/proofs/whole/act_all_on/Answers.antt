@@ -206,3 +206,16 @@ returns-in-Err-commit-clause-survives g c =
     let it = (rw c.transaction-tx.ensures.begun at c.in-Ok.ensures.tries) late b (shows_begun old b first keeps) same in
     (it.book, it.lead, left_last old last (state g.S.Store end) c.act_lines.new.book.state b c.args.list.now c.in-Ok.added it live c.schema-schema.ensures.live keeps quiet c.commit.ensures.survives clean db is))
     quiet.survives c.commit.ensures.survives)
+
+pub returns-in-Ok-commit-clause-searched : goal.returns-in-Ok-commit-clause-searched
+returns-in-Ok-commit-clause-searched g c clean b keeps same =
+    let h = c.args.conn.now in
+    let old = state g.S.Store h in
+    let last = state g.S.Store c.act_lines.new.tx.conn.now in
+    let end = c.commit.new.self.0 in
+    let same_end : end ≡ c.conn-2-1.given.0 = search rules in
+    let quiet : Silent old last = silent_begin g.S.Store h last (subst (λ x. Silent (state g.S.Store x) last) c.transaction-tx.ensures.begun c.act_lines.ensures.silent) in
+    let done : HasCleanDisk (state g.S.Store end) = subst (λ x. HasCleanDisk (state g.S.Store x)) (sym same_end) clean in
+    let late : HasCleanDisk last = omega (arith, c.commit.ensures.survives.clean, done) in
+    let first : HasCleanDisk old = omega (arith, quiet.survives.clean, late) in
+    (rw c.transaction-tx.ensures.begun at c.in-Ok.ensures.searched) late b (shows_begun old b first keeps) same

@@ -106,3 +106,10 @@ returns-clause-cause g c clean b shows whole same =
     let rows = rw (sym c.bytes.ensures.value) at one in
     by_open {X = Bool} (state g.S.Store c.args.tx.now.conn.now) (state g.S.Store c.look_up_within.new.tx.conn.now) (Err c.in-Err-look_up_within.stop)
     (λ live. c.in-Err-look_up_within.ensures.cause clean (shows.schema live) (tables_of b) (shows.holds live) rows)
+
+pub returns-in-Ok-New-clause-searched : goal.returns-in-Ok-New-clause-searched
+returns-in-Ok-New-clause-searched g c clean b shows same =
+    let mid : HasCleanDisk (state g.S.Store c.look_up_within.new.tx.conn.now) = omega (arith, c.enter.ensures.silent.survives.clean, clean) in
+    let live = c.in-Ok-New.ensures.looks.live mid in
+    let rows = rw (c.bytes.ensures.value, c.in-Ok-New.field-0-is) at (c.in-Ok-New.ensures.found mid (shows.schema live) (tables_of b) (shows.holds live)) in
+    c.enter.ensures.searched b same (is_new c.args.reference.now b rows)

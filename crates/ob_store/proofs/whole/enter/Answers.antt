@@ -1,9 +1,10 @@
-use Rattle.std.proofs.Common.{◌≡◌, Bool, Ok, Err, None, sym, ap, ap₂, subst, ◌∙◌}
+use Rattle.std.proofs.Common.{◌≡◌, arith, Bool, Ok, Err, None, sym, ap, ap₂, subst, ◌∙◌}
 use Rattle.sqlite.specs.Held.{state}
 use Rattle.ob_post.specs.MoveLaws.{AreSmall}
 use Rattle.ob_state.specs.Amounts.{amount}
 use Rattle.ob_state.specs.Next.{next}
 use Rattle.ob_state.specs.Refusals.{refusal}
+use Rattle.ob_state.specs.States.{BookValue}
 use Rattle.ob_book.specs.Acts.{act}
 use Rattle.ob_sql_rows.proofs.Silence.{silent_same}
 use Rattle.ob_record.specs.Leading.{Records}
@@ -11,6 +12,7 @@ use Rattle.ob_record.specs.Naming.{IsReferenced}
 use Rattle.ob_store.specs.Acting.{under}
 use Rattle.ob_store.proofs.Accepting.{none_told}
 use Rattle.ob_store.proofs.Within.{by_open, entered, lets_in, memory_is, tries_none}
+use Rattle.ob_store.proofs.Searching.{accepted_searched, decided_searched}
 use Rattle.ob_store.proofs.whole.enter.Goals as goal
 
 pub act_of-act-requires-clause-small : goal.act_of-act-requires-clause-small
@@ -69,3 +71,21 @@ returns-in-Err-write_act-clause-cause g c clean b shows whole same fresh =
     by_open {X = Bool} old new (Err c.in-Err-write_act.stop)
     (λ live store. c.in-Err-write_act.ensures.cause clean store shows.inside
     (lets_in old new c.decide.new.self.state b a p c.act_of-act.result c.reached_law.ensures.goes_on shows records fresh free (c.bytes.ensures.identifier, c.requires.valid) live whole))
+
+-- a refused command was not searched for
+pub returns-in-Err-clause-searched : goal.returns-in-Err-clause-searched
+returns-in-Err-clause-searched g c b same fresh =
+    decided_searched g.T.Timeline.bound b (under c.args.reference.now c.args.command.now) fresh c.args.book.now.state same c.args.book.now.searches c.decide.new.self.searches c.decide.ensures.searches
+    (λ r is. ap (λ (v : BookValue). v.searches) (c.in-Err.ensures.same r ((c.in-Err.ensures.refused r).1 is)))
+
+pub returns-in-Ok-write_act-clause-searched : goal.returns-in-Ok-write_act-clause-searched
+returns-in-Ok-write_act-clause-searched g c b same fresh =
+    let at : c.decide.new.self.state ≡ b.book = c.decide.ensures.state ∙ same in
+    let free : refusal b.book c.args.command.now ≡ None = sym (ap₂ refusal at c.in-Ok.ensures.command) ∙ c.in-Ok.ensures.plan.accepted in
+    accepted_searched g.T.Timeline.bound b (under c.args.reference.now c.args.command.now) fresh c.args.book.now.state same c.args.book.now.searches c.adopt.new.self.searches (omega (arith, c.adopt.ensures.searches, c.decide.ensures.searches)) free
+
+pub returns-in-Err-write_act-clause-searched : goal.returns-in-Err-write_act-clause-searched
+returns-in-Err-write_act-clause-searched g c b same fresh =
+    let at : c.decide.new.self.state ≡ b.book = c.decide.ensures.state ∙ same in
+    let free : refusal b.book c.args.command.now ≡ None = sym (ap₂ refusal at c.in-Ok.ensures.command) ∙ c.in-Ok.ensures.plan.accepted in
+    accepted_searched g.T.Timeline.bound b (under c.args.reference.now c.args.command.now) fresh c.args.book.now.state same c.args.book.now.searches c.decide.new.self.searches c.decide.ensures.searches free

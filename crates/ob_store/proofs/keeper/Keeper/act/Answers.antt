@@ -1,6 +1,6 @@
-use Rattle.std.proofs.Common.{◌≡◌, Option, Some, Err, sym, ap, subst, ◌∙◌}
+use Rattle.std.proofs.Common.{◌≡◌, arith, Option, Some, Err, sym, ap, subst, ◌∙◌}
 use Rattle.std.specs.Prelude.{⊤, IfSome}
-use Rattle.std.specs.Option.{option_map}
+use Rattle.std.specs.Option.{option_map, option_map_or}
 use Rattle.sqlite.specs.Held.{Held, state}
 use Rattle.sqlite.specs.State.{Survives}
 use Rattle.ob_state.specs.State.{BookState}
@@ -9,6 +9,7 @@ use Rattle.ob_book.specs.Acts.{ActState}
 use Rattle.ob_sql_write.specs.Keeps.{KeepsNumbers}
 use Rattle.ob_store.specs.Acting.{HasActCause, under}
 use Rattle.ob_store.specs.Keeping.{KeeperValue, KeepsBook, Ties}
+use Rattle.ob_store.proofs.Searching.{searched_over, searches_of_some, state_of_some}
 use Rattle.ob_store.proofs.keeper.Keeper.act.Given as given
 use Rattle.ob_store.proofs.keeper.Keeper.act.Goals as goal
 
@@ -59,3 +60,45 @@ returns-in-Ok-clause-survives g c = survives_from g c.args.self.now c.self.insid
 
 pub returns-in-Err-clause-survives : goal.returns-in-Err-clause-survives
 returns-in-Err-clause-survives g c = survives_from g c.args.self.now c.self.inside.conn c.act_on.new.conn (ap (λ (x : KeeperValue g.row.S.Denot). x.conn) c.self.view_is) c.act_on.ensures.survives
+
+pub returns-in-Ok-clause-searches : goal.returns-in-Ok-clause-searches
+returns-in-Ok-clause-searches g c s is =
+    let k = c.args.self.now in
+    let book_is : option_map (λ (x : BookValue). x.state) c.self.inside.book ≡ k.book = ap (λ (x : KeeperValue g.row.S.Denot). x.book) c.self.view_is in
+    let searches_is : option_map_or (λ (x : BookValue). x.searches) c.self.inside.book 0 ≡ k.searches = ap (λ (x : KeeperValue g.row.S.Denot). x.searches) c.self.view_is in
+    let before = searches_of_some c.self.inside.book c.in-Some.book c.in-Some.is k.searches searches_is in
+    let most = searched_over g.T.Timeline.bound c.in-Some.book.state s c.args.command k.searches c.in-Some.book.searches c.act_on.new.book.searches
+    (state_of_some c.self.inside.book c.in-Some.book c.in-Some.is k.book s book_is is) before c.act_on.ensures.searches in
+    most
+
+pub returns-in-Ok-clause-searched : goal.returns-in-Ok-clause-searched
+returns-in-Ok-clause-searched g c clean b ties some =
+    let k = c.args.self.now in
+    let conn = c.self.inside.conn in
+    let conn_is : conn ≡ k.conn = ap (λ (x : KeeperValue g.row.S.Denot). x.conn) c.self.view_is in
+    let book_is : option_map (λ (x : BookValue). x.state) c.self.inside.book ≡ k.book = ap (λ (x : KeeperValue g.row.S.Denot). x.book) c.self.view_is in
+    let searches_is : option_map_or (λ (x : BookValue). x.searches) c.self.inside.book 0 ≡ k.searches = ap (λ (x : KeeperValue g.row.S.Denot). x.searches) c.self.view_is in
+    let before = searches_of_some c.self.inside.book c.in-Some.book c.in-Some.is k.searches searches_is in
+    let few = c.act_on.ensures.searched clean b (keeps_in g k conn conn_is b ties) (same_in g k conn conn_is b c.self.inside.book c.in-Some.book book_is c.in-Some.is ties) in
+    omega (arith, before, few)
+
+pub returns-in-Err-clause-searches : goal.returns-in-Err-clause-searches
+returns-in-Err-clause-searches g c s is =
+    let k = c.args.self.now in
+    let book_is : option_map (λ (x : BookValue). x.state) c.self.inside.book ≡ k.book = ap (λ (x : KeeperValue g.row.S.Denot). x.book) c.self.view_is in
+    let searches_is : option_map_or (λ (x : BookValue). x.searches) c.self.inside.book 0 ≡ k.searches = ap (λ (x : KeeperValue g.row.S.Denot). x.searches) c.self.view_is in
+    let before = searches_of_some c.self.inside.book c.in-Some.book c.in-Some.is k.searches searches_is in
+    let most = searched_over g.T.Timeline.bound c.in-Some.book.state s c.args.command k.searches c.in-Some.book.searches c.act_on.new.book.searches
+    (state_of_some c.self.inside.book c.in-Some.book c.in-Some.is k.book s book_is is) before c.act_on.ensures.searches in
+    omega (arith, most, c.settle.ensures.searches)
+
+pub returns-in-Err-clause-searched : goal.returns-in-Err-clause-searched
+returns-in-Err-clause-searched g c clean b ties some =
+    let k = c.args.self.now in
+    let conn = c.self.inside.conn in
+    let conn_is : conn ≡ k.conn = ap (λ (x : KeeperValue g.row.S.Denot). x.conn) c.self.view_is in
+    let book_is : option_map (λ (x : BookValue). x.state) c.self.inside.book ≡ k.book = ap (λ (x : KeeperValue g.row.S.Denot). x.book) c.self.view_is in
+    let searches_is : option_map_or (λ (x : BookValue). x.searches) c.self.inside.book 0 ≡ k.searches = ap (λ (x : KeeperValue g.row.S.Denot). x.searches) c.self.view_is in
+    let before = searches_of_some c.self.inside.book c.in-Some.book c.in-Some.is k.searches searches_is in
+    let few = c.act_on.ensures.searched clean b (keeps_in g k conn conn_is b ties) (same_in g k conn conn_is b c.self.inside.book c.in-Some.book book_is c.in-Some.is ties) in
+    omega (arith, before, few, c.settle.ensures.searches)

@@ -1,6 +1,6 @@
-use Rattle.std.proofs.Common.{◌≡◌, Option, Some, None, Err, refl, sym, ap, subst, ◌∙◌}
+use Rattle.std.proofs.Common.{◌≡◌, arith, Option, Some, None, Err, refl, sym, ap, subst, ◌∙◌}
 use Rattle.std.specs.Prelude.{⊤, IfSome}
-use Rattle.std.specs.Option.{option_map}
+use Rattle.std.specs.Option.{option_map, option_map_or}
 use Rattle.sqlite.specs.Held.{Held, state}
 use Rattle.ob_state.specs.State.{BookState}
 use Rattle.ob_state.specs.States.{BookValue}
@@ -9,6 +9,7 @@ use Rattle.ob_sql_write.specs.Keeps.{KeepsNumbers}
 use Rattle.ob_store.specs.Keeping.{KeeperValue, KeepsBook, Ties}
 use Rattle.ob_store.specs.Whole.{HasListCause}
 use Rattle.ob_store.proofs.Committing.{acted_ok, commits_of}
+use Rattle.ob_store.proofs.Searching.{searches_of_some}
 use Rattle.ob_store.proofs.keeper.Keeper.act_all.Given as given
 use Rattle.ob_store.proofs.keeper.Keeper.act_all.Goals as goal
 
@@ -30,7 +31,7 @@ returns-in-Ok-clause-acted g c clean b ties some =
     let conn = c.self.inside.conn in
     let conn_is : conn ≡ k.conn = ap (λ (x : KeeperValue g.row.S.Denot). x.conn) c.self.view_is in
     let book_is : option_map (λ (x : BookValue). x.state) c.self.inside.book ≡ k.book = ap (λ (x : KeeperValue g.row.S.Denot). x.book) c.self.view_is in
-    acted_ok g.S.Store c.act_all_on.new.conn c.act_all_on.new.book.state b c.args.list.now c.in-Ok.added
+    acted_ok g.S.Store c.act_all_on.new.conn c.act_all_on.new.book.state c.act_all_on.new.book.searches b c.args.list.now c.in-Ok.added
     (c.in-Ok.ensures.acts clean b (keeps_in g k conn conn_is b ties) (same_in g k conn conn_is b c.self.inside.book c.in-Some.book book_is c.in-Some.is ties))
 
 pub returns-in-Err-clause-acted : goal.returns-in-Err-clause-acted
@@ -71,11 +72,22 @@ returns-in-Ok-clause-commits g c =
     let k = c.args.self.now in
     let conn_is : c.self.inside.conn ≡ k.conn = ap (λ (x : KeeperValue g.row.S.Denot). x.conn) c.self.view_is in
     let book_is : option_map (λ (x : BookValue). x.state) c.self.inside.book ≡ k.book = ap (λ (x : KeeperValue g.row.S.Denot). x.book) c.self.view_is in
-    commits_of g.S.Store k c.self.inside.conn c.act_all_on.new.conn (Some c.act_all_on.new.book.state) c.in-Some.book.state c.args.list.now conn_is (sym book_is ∙ ap (option_map (λ (x : BookValue). x.state)) c.in-Some.is) c.act_all_on.ensures.survives
+    commits_of g.S.Store k c.self.inside.conn c.act_all_on.new.conn (Some c.act_all_on.new.book.state) c.act_all_on.new.book.searches c.in-Some.book.state c.args.list.now conn_is (sym book_is ∙ ap (option_map (λ (x : BookValue). x.state)) c.in-Some.is) c.act_all_on.ensures.survives
 
 pub returns-in-Err-clause-commits : goal.returns-in-Err-clause-commits
 returns-in-Err-clause-commits g c =
     let k = c.args.self.now in
     let conn_is : c.self.inside.conn ≡ k.conn = ap (λ (x : KeeperValue g.row.S.Denot). x.conn) c.self.view_is in
     let book_is : option_map (λ (x : BookValue). x.state) c.self.inside.book ≡ k.book = ap (λ (x : KeeperValue g.row.S.Denot). x.book) c.self.view_is in
-    commits_of g.S.Store k c.self.inside.conn c.act_all_on.new.conn None c.in-Some.book.state c.args.list.now conn_is (sym book_is ∙ ap (option_map (λ (x : BookValue). x.state)) c.in-Some.is) c.act_all_on.ensures.survives
+    commits_of g.S.Store k c.self.inside.conn c.act_all_on.new.conn None 0 c.in-Some.book.state c.args.list.now conn_is (sym book_is ∙ ap (option_map (λ (x : BookValue). x.state)) c.in-Some.is) c.act_all_on.ensures.survives
+
+pub returns-in-Ok-clause-searched : goal.returns-in-Ok-clause-searched
+returns-in-Ok-clause-searched g c clean b ties some =
+    let k = c.args.self.now in
+    let conn = c.self.inside.conn in
+    let conn_is : conn ≡ k.conn = ap (λ (x : KeeperValue g.row.S.Denot). x.conn) c.self.view_is in
+    let book_is : option_map (λ (x : BookValue). x.state) c.self.inside.book ≡ k.book = ap (λ (x : KeeperValue g.row.S.Denot). x.book) c.self.view_is in
+    let searches_is : option_map_or (λ (x : BookValue). x.searches) c.self.inside.book 0 ≡ k.searches = ap (λ (x : KeeperValue g.row.S.Denot). x.searches) c.self.view_is in
+    let before = searches_of_some c.self.inside.book c.in-Some.book c.in-Some.is k.searches searches_is in
+    let few = c.in-Ok.ensures.searched clean b (keeps_in g k conn conn_is b ties) (same_in g k conn conn_is b c.self.inside.book c.in-Some.book book_is c.in-Some.is ties) in
+    omega (arith, before, few)

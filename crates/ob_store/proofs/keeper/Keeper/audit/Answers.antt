@@ -1,5 +1,5 @@
-use Rattle.std.proofs.Common.{◌≡◌, Ok, ap, subst}
-use Rattle.std.specs.Option.{option_map}
+use Rattle.std.proofs.Common.{◌≡◌, arith, Ok, ap, subst}
+use Rattle.std.specs.Option.{option_map, option_map_or}
 use Rattle.sqlite.specs.Held.{Held}
 use Rattle.ob_state.specs.States.{BookValue}
 use Rattle.ob_store.specs.Keeping.{KeeperValue}
@@ -15,4 +15,14 @@ returns-in-Ok-clause-audited g c clean schema =
     let conn_is : c.self.inside.conn ≡ c.args.self.now.conn = ap (λ (k : KeeperValue g.row.S.Denot). k.conn) c.self.view_is in
     let book_is : option_map (λ (b : BookValue). b.state) c.self.inside.book ≡ c.args.self.now.book = ap (λ (k : KeeperValue g.row.S.Denot). k.book) c.self.view_is in
     let found = subst (λ (h : Held g.row.S.Denot). Tells g.S.Store Finding HasNoBook h new (Ok c.in-Ok.found)) conn_is c.in-Ok.ensures.tells in
-    audited_ok g.S.Store c.args.self.now (record { conn = new; book = option_map (λ (b : BookValue). b.state) c.self.inside.book }) schema clean c.in-Ok.found found book_is
+    audited_ok g.S.Store c.args.self.now (record { conn = new; book = option_map (λ (b : BookValue). b.state) c.self.inside.book; searches = option_map_or (λ (b : BookValue). b.searches) c.self.inside.book 0 }) schema clean c.in-Ok.found found book_is
+
+pub returns-in-Ok-clause-searches : goal.returns-in-Ok-clause-searches
+returns-in-Ok-clause-searches g c =
+    let is : option_map_or (λ (b : BookValue). b.searches) c.self.inside.book 0 ≡ c.args.self.now.searches = ap (λ (k : KeeperValue g.row.S.Denot). k.searches) c.self.view_is in
+    omega (arith, is)
+
+pub returns-in-Err-clause-searches : goal.returns-in-Err-clause-searches
+returns-in-Err-clause-searches g c =
+    let is : option_map_or (λ (b : BookValue). b.searches) c.self.inside.book 0 ≡ c.args.self.now.searches = ap (λ (k : KeeperValue g.row.S.Denot). k.searches) c.self.view_is in
+    omega (arith, is, c.settle.ensures.searches)

@@ -1,7 +1,7 @@
 use Rattle.ob_store.proofs.keeper.Keeper.load_with_progress.Goals as goal
 
-pub returns : goal.returns
-returns g c =
+pub returns-clause-loads : goal.returns-clause-loads
+returns-clause-loads g c =
     let it = c.read_book.ensures in
     record {
       found = it.found;
