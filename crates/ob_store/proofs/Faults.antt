@@ -15,7 +15,7 @@ use Rattle.ob_sql_rows.proofs.Failing.{failed_after}
 use Rattle.ob_sql_write.specs.Keeps.{WasUndone}
 use Rattle.ob_record.specs.Tables.{tables_of}
 use Rattle.ob_sql_read.proofs.Listing.{still}
-use Rattle.ob_store.specs.Calls.{CommitsNothing, ForgetsNoFault, HasCommandCause, HasWorkCause, IfHeld, TellsFaults}
+use Rattle.ob_store.specs.Calls.{CommitsNothing, ForgetsNoFault, HasCommandCause, IfHeld, TellsFaults}
 use Rattle.ob_store.specs.Keepers.{Ghosts, IsClean, KeeperValue, StoresNumbers, Ties}
 use Rattle.ob_store.proofs.KeeperLaws.{numbers_stay}
 

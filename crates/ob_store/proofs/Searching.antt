@@ -1,10 +1,8 @@
 -- How often the calls of a keeper search.
-use Rattle.std.proofs.Common.{◌≡◌, ◌∙◌, ℕ, ◌+◌, ◌≤◌, List, [], ◌∷◌, ◌++◌, None, Some, Option, Ok, Err, Result, refl, sym, ap, ap₂, arith}
-use Rattle.std.specs.Prelude.{⊤}
+use Rattle.std.proofs.Common.{◌≡◌, ◌∙◌, ℕ, ◌+◌, ◌≤◌, List, [], ◌∷◌, ◌++◌, None, Some, Option, Ok, Err, refl, sym, ap, ap₂, arith}
 use Rattle.std.proofs.lemmas.List.Sums.{fold-append}
 use Rattle.sqlite.specs.Tree.{Trees}
 use Rattle.sqlite_trees.specs.declared.store.Store.{Ghosts}
-use Rattle.sqlite.specs.Held.{state}
 use Rattle.ob_time.specs.Calendar.{Calendar}
 use Rattle.ob_base.specs.declared.stop.Refusal.{Refusal}
 use Rattle.ob_command.specs.declared.command.Command.{Command}
@@ -15,7 +13,7 @@ use Rattle.ob_state.specs.Refusals.{refusal}
 use Rattle.ob_state.specs.Searches.{all_searches, most_searches}
 use Rattle.ob_book.specs.Acts.{ActState, Referenced, act, acts, number_of, start}
 use Rattle.ob_book.specs.Searches.{Bound, SearchesAddUp, SearchesOfBoth, searches_of_act, searches_of_acts, searches_of_replay}
-use Rattle.ob_record.specs.Reached.{IsReached, ReachedAreFew}
+use Rattle.ob_record.specs.Reached.{ReachedAreFew}
 use Rattle.ob_sql_rows.specs.declared.version.Version.TheVariants.{Two}
 use Rattle.ob_sql_read.specs.declared.filed.Filed.{Filed}
 use Rattle.ob_sql_read.specs.Listing.{filed_of}

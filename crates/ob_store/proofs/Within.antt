@@ -1,14 +1,11 @@
 -- One line after another inside a transaction: what each makes of the tables of a book, and where the store fails.
-use Rattle.std.proofs.Common.{◌≡◌, ◌∙◌, ◌+◌, ◌<◌, ◌≤◌, ℕ, Bool, true, false, zero, suc, List, [], ◌∷◌, ◌++◌, length, drop, get_or, None, Some, Result, Ok, Err, IsTrue, inl, inr, refl, sym, ap, ap₂, subst, arith, length-append}
+use Rattle.std.proofs.Common.{◌≡◌, ◌∙◌, ◌+◌, ◌<◌, ◌≤◌, ℕ, Bool, true, false, zero, suc, List, [], ◌∷◌, length, drop, get_or, None, Some, Result, Ok, Err, IsTrue, inl, inr, refl, sym, ap, subst, arith, length-append}
 use Rattle.std.specs.Prelude.{OnOk, if◌then◌else◌}
 use Rattle.std.specs.List.{AllByRecursion}
-use Rattle.std.specs.List.Sorted.{IsPermutation}
 use Rattle.std.specs.Result.{is_ok}
 use Rattle.std.proofs.lemmas.Bool.{cases_Bool}
 use Rattle.sqlite.specs.State.{State, HasCleanDisk}
 use Rattle.ob_base.specs.declared.stop.Refusal.{Refusal}
-use Rattle.ob_base.specs.declared.stop.Fault.{Fault as AFault}
-use Rattle.ob_base.specs.declared.stop.Fault.TheVariants.{OutOfMemory}
 use Rattle.ob_base.specs.declared.stop.Stop.{Stop}
 use Rattle.ob_base.specs.declared.stop.Stop.TheVariants.{Refused, Fault}
 use Rattle.ob_post.specs.Postings.{PostedAmounts}
@@ -16,18 +13,17 @@ use Rattle.ob_state.specs.State.{BookState}
 use Rattle.ob_state.specs.Next.{next}
 use Rattle.ob_state.specs.Refusals.{refusal}
 use Rattle.ob_book.specs.Acts.{ActState, Referenced, Reply, act, answer, is_accepted, number_of, take_on}
-use Rattle.ob_sql_rows.specs.Rows.{Always, Tables, Holds}
+use Rattle.ob_sql_rows.specs.Rows.{Always, Holds}
 use Rattle.ob_sql_rows.specs.Schema.{book_schema}
 use Rattle.ob_sql_rows.specs.Steps.{HasFaultCause, LetsIn, Makes, Silent}
 use Rattle.ob_sql_write.specs.declared.act.Act.{Act}
 use Rattle.ob_sql_write.specs.Acts.{LetsAct, NeedsRows, with_act}
-use Rattle.ob_sql_write.proofs.Steps.{makes_none, makes_then}
+use Rattle.ob_sql_write.proofs.Steps.{makes_then}
 use Rattle.ob_record.specs.Leading.{Records}
 use Rattle.ob_record.specs.Naming.{IsReferenced}
 use Rattle.ob_record.specs.Reached.{AcceptedIsReached, IsReached}
 use Rattle.ob_record.specs.Tables.{tables_of}
 use Rattle.ob_book.specs.Searches.{Bound}
-use Rattle.ob_store.specs.Acting.{IsActStop}
 use Rattle.ob_store.specs.Searching.{searches_of_line, searches_of_lines}
 use Rattle.ob_store.specs.Whole.{Halts, InTurn, IsWhole, LeadsTables, Line, ShowsBook, Steps, Tries, after_line, after_lines, answer_to, goes_on}
 use Rattle.ob_store.proofs.Accepting.{holds_as, valid_more}

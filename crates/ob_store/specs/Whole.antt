@@ -1,5 +1,5 @@
 -- What a list of commands makes of a book in one transaction: all of them, or none.
-use Rattle.std.specs.Prelude.{◌≡◌, ◌⊎◌, ◌<◌, ◌+◌, ℕ, ⊤, Bool, true, List, [], ◌∷◌, length, drop, Option, None, Result, Ok, Err, IsSome, IsTrue, IfErr, if◌then◌else◌}
+use Rattle.std.specs.Prelude.{◌≡◌, ◌⊎◌, ◌+◌, ℕ, ⊤, Bool, true, List, [], ◌∷◌, length, drop, None, Result, Ok, Err, IsSome, IsTrue, IfErr, if◌then◌else◌}
 use Rattle.std.specs.List.{AllByRecursion}
 use Rattle.std.specs.Result.{is_ok}
 use Rattle.sqlite_trees.specs.declared.store.Store.{Ghosts}
@@ -13,8 +13,8 @@ use Rattle.ob_base.specs.declared.stop.Stop.TheVariants.{Refused, Fault}
 use Rattle.ob_base.specs.declared.stop.Fault.TheVariants.{OutOfMemory, Store, Reopen}
 use Rattle.ob_command.specs.declared.command.Command.{Command}
 use Rattle.ob_state.specs.State.{BookState}
-use Rattle.ob_book.specs.Acts.{ActState, Referenced, Reply, act, answer}
-use Rattle.ob_sql_rows.specs.Rows.{Holds, Tables}
+use Rattle.ob_book.specs.Acts.{ActState, Reply, act, answer}
+use Rattle.ob_sql_rows.specs.Rows.{Holds}
 use Rattle.ob_sql_rows.specs.Rules.{AreNumbered}
 use Rattle.ob_sql_rows.specs.Schema.{book_schema}
 use Rattle.ob_sql_rows.specs.Steps.{HasFailed, Makes}

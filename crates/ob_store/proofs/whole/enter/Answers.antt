@@ -1,11 +1,10 @@
-use Rattle.std.proofs.Common.{◌≡◌, arith, Bool, Ok, Err, None, sym, ap, ap₂, subst, ◌∙◌}
+use Rattle.std.proofs.Common.{◌≡◌, arith, Bool, Err, None, sym, ap, ap₂, subst, ◌∙◌}
 use Rattle.sqlite.specs.Held.{state}
 use Rattle.ob_post.specs.MoveLaws.{AreSmall}
 use Rattle.ob_state.specs.Amounts.{amount}
 use Rattle.ob_state.specs.Next.{next}
 use Rattle.ob_state.specs.Refusals.{refusal}
 use Rattle.ob_state.specs.States.{BookValue}
-use Rattle.ob_book.specs.Acts.{act}
 use Rattle.ob_sql_rows.proofs.Silence.{silent_same}
 use Rattle.ob_record.specs.Leading.{Records}
 use Rattle.ob_record.specs.Naming.{IsReferenced}
