@@ -88,7 +88,7 @@ goes_from g h b told first old begun goes clean =
     subst (λ (all : List Told). Stands g (MayBe b all) old) (append-nil told) (goes.stands clean b [] begun)
 
 -- where what is shown after a load is lacking, memory was refused
-pub without_memory : {X : Type 0} {Stops : Stop → Type 0} {Has : Type 0} (r : Result X Stop) → Has → IfErr r (λ stop. stop ≡ out_of_memory)
+pub without_memory : {X Has : Type 0} (Stops : Stop → Type 0) (r : Result X Stop) → Has → IfErr r (λ stop. stop ≡ out_of_memory)
     → IfErr r (λ stop. Stops stop ⊎ (Has × (stop ≡ out_of_memory)))
-without_memory (Ok x) has none = tt
-without_memory (Err stop) has none = inr (has, none)
+without_memory Stops (Ok x) has none = tt
+without_memory Stops (Err stop) has none = inr (has, none)

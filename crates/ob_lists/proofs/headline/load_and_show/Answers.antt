@@ -24,7 +24,7 @@ pub returns-in-Ok-clause-goes : goal.returns-in-Ok-clause-goes
 returns-in-Ok-clause-goes g c = c.in-Ok.ensures.goes
 
 pub returns-in-Ok-clause-stops : goal.returns-in-Ok-clause-stops
-returns-in-Ok-clause-stops g c = without_memory c.shown.result c.in-Ok.ensures.load.found c.shown.ensures.err
+returns-in-Ok-clause-stops g c = without_memory _ c.shown.result c.in-Ok.ensures.load.found c.shown.ensures.err
 
 pub returns-in-Err-clause-goes : goal.returns-in-Err-clause-goes
 returns-in-Err-clause-goes g c = c.in-Err.ensures.goes
