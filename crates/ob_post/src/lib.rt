@@ -8,6 +8,7 @@
 //! intervals are examined. Used by `ob_json`, `ob_http_replies`, `ob_state` and crates above them.
 #![tactic(auto)]
 
+mod basis;
 mod difference;
 mod differing;
 pub mod laws;
@@ -18,6 +19,7 @@ mod postings;
 mod run_amounts;
 mod run_causes;
 
+pub use basis::Basis;
 pub use difference::moves;
 pub use posting::Posting;
 pub use postings::Postings;
