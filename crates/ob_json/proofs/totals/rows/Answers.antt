@@ -18,5 +18,5 @@ pub returns : goal.returns
 returns c =
     let all : c.loop-key.key ≡ c.keys-keys.result.end = omega (arith, c) in
     let same : map view c.loop-key.rows.items ≡ map row_data (rows_of (amount_of c.args.postings.now c.args.dim) (keys (day_count c.args.postings.now) c.args.dim)) =
-    c.loop-key.invariant ∙ rw (all, sym c.requires, c.keys-keys.ensures.all) refl in
+    c.loop-key.invariant ∙ rw (all, sym c.requires.days, c.keys-keys.ensures.all) refl in
     record { «data» = view-Array c.loop-key.rows ∙ ap (λ rows. array (items_of rows)) same }
