@@ -17,8 +17,8 @@ no_state b e = cc
 pub returns-clause-refused : goal.returns-clause-refused
 returns-clause-refused g c b is refusal =
     let state : Option BookValue → Option BookState = option_map (λ (x : BookValue). x.state) in
-    let book_is : state c.self.inside.book ≡ c.args.self.now.book = ap (λ (k : KeeperValue g.row.S.Denot). k.book) c.self.view_is in
-    elim c.match-self.branch [
+    let book_is : state c.parts.inside.book ≡ c.args.self.now.parts.book = ap (λ (k : KeeperValue g.row.S.Denot). k.book) c.parts.view_is in
+    elim c.match-parts.branch [
       | in-Some w ↦
           subst (λ r. (r ≡ Err (stops.Refused refusal)) ↔ (refusal_to b c.args.command.now ≡ Some refusal)) (sym w.result-is)
           (subst (λ (s : BookState). (w.plan_text.result ≡ Err (stops.Refused refusal)) ↔ (refusal_to s c.args.command.now ≡ Some refusal))
