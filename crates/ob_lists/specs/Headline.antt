@@ -6,19 +6,20 @@ use Rattle.ob_post.specs.Keys.{IsKey}
 use Rattle.ob_post.specs.declared.Dim.{Dim}
 use Rattle.ob_index.specs.declared.figures.Which.{Which}
 use Rattle.ob_book.specs.Acts.{ActState, Referenced}
-use Rattle.ob_store.specs.Keepers.{Ghosts, KeeperValue, Ties}
+use Rattle.ob_store.specs.Keepers.{Ghosts, Ties}
+use Rattle.ob_store.specs.declared.keeper.Keeper.{Keeper}
 use Rattle.ob_headline.specs.Headline.{IsHeadline}
 use Rattle.ob_headline.specs.declared.figures.Shown.{Shown}
 use Rattle.ob_lists.specs.Standing.{MayBe, Told, acknowledged}
 use Rattle.ob_lists.specs.Going.{Finds, Holds}
 
-module _ {S : Type 0} (g : Ghosts S) (b : ActState) (told : List Told) (k : KeeperValue S) (dim : Dim) (key : ℕ) (which : Which) where
+module _ {S T : Type 0} {g : Ghosts S} (b : ActState) (told : List Told) (k : Keeper S T g) (dim : Dim) (key : ℕ) (which : Which) where
   -- what is shown is the headline of one book, which the keeper has and its store keeps: a book to which the calls may have led from
   -- that at their beginning, such as a new one; it is of the same period, and has each command that was acknowledged
   pub record IsShownAfter (shown : Shown) : Type 0 where
     pub book : ActState
     pub may_be : MayBe b told book
-    pub ties : Ties g k book
+    pub ties : Ties k book
     pub period : book.book.period ≡ b.book.period
     pub has : (a : Referenced) → Contains told (acknowledged a) → Holds book a
     pub headline : IsHeadline book dim key which shown
@@ -28,4 +29,4 @@ module _ {S : Type 0} (g : Ghosts S) (b : ActState) (told : List Told) (k : Keep
   abbrev pub LoadsAndShows : Result (Option Shown) Stop → Type 0
   LoadsAndShows (Ok (Some shown)) = IsShownAfter shown
   LoadsAndShows (Ok None) = ¬ (IsKey (day_count b.book.period) dim key)
-  LoadsAndShows (Err stop) = Finds g (MayBe b told) k (Err stop)
+  LoadsAndShows (Err stop) = Finds (MayBe b told) k (Err stop)

@@ -16,4 +16,4 @@ returns g c =
     let all = told_by_import (Some (rows_of c.args.text.now)) c.import_text-done.result ++ first in
     let sent = c.act-sent.ensures.goes.stands (c.import_text-done.ensures.goes.clean left) b told stands in
     let was = goes.stands opened b all (c.import_text-done.ensures.goes.stands left b first sent) in
-    finds g.R.Store (MayBe b all) next.result c.load-found.new.keeper c.load-found.result (c.load-found.ensures.loads clean b all was)
+    finds (MayBe b all) next.result c.load-found.new.keeper c.load-found.result (c.load-found.ensures.loads clean b all was)

@@ -11,4 +11,4 @@ returns g c =
     let loaded = c.load-2.ensures.goes.clean clean in
     let sent = c.load.ensures.goes.clean loaded in
     let was = c.load.ensures.goes.stands loaded b all (c.act-sent.ensures.goes.stands sent b told stands) in
-    finds g.S.Store (MayBe b all) c.load.new.keeper c.load-2.new.keeper c.load-2.result (c.load-2.ensures.loads clean b all was)
+    finds (MayBe b all) c.load.new.keeper c.load-2.new.keeper c.load-2.result (c.load-2.ensures.loads clean b all was)
