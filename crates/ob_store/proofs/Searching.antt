@@ -23,9 +23,9 @@ use Rattle.ob_sql_read.specs.Listing.{filed_of}
 use Rattle.ob_sql_read.specs.Moves.{commands_of}
 use Rattle.ob_store.specs.declared.named.Named.{Named}
 use Rattle.ob_store.specs.Finding.{IsNamed}
-use Rattle.ob_store.specs.Calls.{WasClean}
+use Rattle.ob_store.specs.Calls.{StillStores, WasClean}
 use Rattle.ob_store.specs.Keepers.{OnlySearches, Ties}
-use Rattle.ob_store.specs.Keeping.{KeepsBook}
+use Rattle.ob_store.specs.Keeping.{KeepsBook, KeepsOn}
 use Rattle.ob_store.specs.Laws.{Laws}
 use Rattle.ob_store.specs.Leading.{IsNewBook}
 use Rattle.ob_store.specs.Loading.{trees_in}
@@ -86,6 +86,16 @@ still_tied {S} {T} {g} old new same b ties = record {
   kept = subst (λ (h : Held S). KeepsBook (state g h) b) (sym same.0) ties.kept;
   book = subst (λ (o : Option BookState). IfSome o (λ s. s ≡ b.book)) (sym same.1) ties.book;
 }
+
+-- its store keeps on what it kept
+pub still_stores : {S T : Type 0} {g : Ghosts S} (old new : Keeper S T g) → OnlySearches old new → StillStores old new
+still_stores {S} {T} {g} old new same =
+    subst (λ (h : Held S). KeepsOn (state g old.parts.conn) (state g h)) (sym same.0) (record {
+      book = λ b keeps. keeps;
+      either = λ b c keeps. keeps;
+      old_book = λ b keeps. keeps;
+      version = λ b keeps. keeps;
+    })
 
 -- and its disk is as clean
 pub clean_before : {S T : Type 0} {g : Ghosts S} (old new : Keeper S T g) → OnlySearches old new → WasClean old new
