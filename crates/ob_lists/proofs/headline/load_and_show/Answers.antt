@@ -22,7 +22,6 @@ returns-in-Err-clause-after g c =
     λ clean b told first begun goes. returns-in-Err-clause-shows g c clean b told
     (goes_from b told first c.args.keeper.now begun goes (c.in-Err.ensures.goes.clean clean))
 
-
 pub returns-in-Ok-clause-goes : goal.returns-in-Ok-clause-goes
 returns-in-Ok-clause-goes g c = c.in-Ok.ensures.goes
 
