@@ -82,6 +82,13 @@ plant(D, 1, "every_other_stream_dropped", "take", LISTENER, "Every other client 
 plant(D, 2, "taken_stream_not_counted", "take", LISTENER, "A stream that is taken isn't counted.",
       ("                self.left -= 1;", "                self.left -= 0;"))
 
+plant(D, 6, "request_read_with_all_retries", "serve_turn", TURN, "Each request is read with all retries.",
+      ("    match read_request(alloc, reader, writer, retries, ahead)? {", "    let mut all = ob_stream::Retries::new(); match read_request(alloc, reader, writer, &mut all, ahead)? {"))
+plant(D, 7, "reply_written_with_all_retries", "reply_to", REPLY, "Each reply is written with all retries.",
+      ("        Ok(text) => write_text(writer, retries, text.bytes()),", "        Ok(text) => { let mut all = ob_stream::Retries::new(); write_text(writer, &mut all, text.bytes()) }"))
+plant(D, 4, "each_request_takes_a_retry", "serve_requests", STREAM, "Each request takes a retry, without an interrupted call.",
+      ("allowed -= 1;", "allowed -= 1; let _ = retries.again(&std::io::Error::from(std::io::ErrorKind::Interrupted));"))
+
 # ---------------------------------------------------------------- outagebook
 O = "outagebook"
 BOOKS, DESK, ENDING, MAIN, PERIOD, PORT, PROGRESS, STACK, TASK, TOTAL, WORDS = (
@@ -107,7 +114,13 @@ plant(O, 3, "log_folded_after_reading_alone", "run_on_book", BOOKS, "What was co
 plant(O, 1, "book_emptied_when_looked_at", "is_there", BOOKS, "Whether a book is there is found out by making its file anew.",
       ("    File::open(rt, book.as_str()).is_ok()", "    File::create(rt, book.as_str()).is_ok()"))
 plant(O, 1, "unopened_book_told_as_input", "keeper_of", BOOKS, "A book that can't be opened is told as a fault of input.",
-      ("        Err(_) => Err(Stop::Fault(Fault::Store)),", "        Err(_) => Err(Stop::Fault(Fault::Input)),"))
+      ("        Err((error, _)) => Err(stop_of_open(error)),", "        Err(_) => Err(Stop::Fault(Fault::Input)),"))
+plant(O, 4, "refused_memory_reported_as_the_stores", "keeper_of", BOOKS, "A book for whose opening memory was refused is reported as a store fault.",
+      ("        Err((error, _)) => Err(stop_of_open(error)),", "        Err(_) => Err(Stop::Fault(Fault::Store)),"))
+plant(O, 1, "unopened_book_reported_as_memory", "stop_of_open", BOOKS, "Whatever keeps a file from being opened is reported as refused memory.",
+      ("        _ => Stop::Fault(Fault::Store),", "        _ => Stop::Fault(Fault::OutOfMemory),"))
+plant(O, 2, "unopened_file_reported_as_no_book", "stop_of_open", BOOKS, "A file that can't be opened is reported as one without a book.",
+      ("        _ => Stop::Fault(Fault::Store),", "        _ => Stop::Fault(Fault::Reopen),"))
 plant(O, 2, "rows_deleted_at_the_opening", "keeper_of", BOOKS, "The amounts are deleted as a book is opened.",
       ("        Ok(conn) => Ok(Keeper::adopt_connection(rt.alloc(), conn)),",
        "        Ok(mut conn) => { let _ = conn.execute(\"DELETE FROM posting\", &[]); Ok(Keeper::adopt_connection(rt.alloc(), conn)) }"))
@@ -223,6 +236,12 @@ plant(L, 2, "plan_without_a_text", "calls::plan", CALLS, "The text of a plan is 
       ("    keeper.plan(command)", "    match keeper.plan(command) { Ok(mut text) => { let _ = text.pop(); Ok(text) } end => end }"))
 plant(L, 3, "plan_refused_for_another_reason", "calls::plan", CALLS, "A plan that is refused is told as refused for the book's sake.",
       ("    keeper.plan(command)", "    match keeper.plan(command) { Err(Stop::Refused(_)) => Err(Stop::Refused(ob_base::Refusal::BadBook)), end => end }"))
+plant(L, 2, "refused_memory_of_a_reply_reported_as_the_stores", "calls::reply_of", CALLS, "A stored reply for which memory was refused is reported as a store fault.",
+      ("    keeper.reply_of(no)", "    match keeper.reply_of(no) { Err(Stop::Fault(Fault::OutOfMemory)) => Err(Stop::Fault(Fault::Store)), end => end }"))
+plant(L, 3, "refused_memory_of_a_load_reported_as_the_stores", "calls::load", CALLS, "A load for which memory was refused is reported as a store fault.",
+      ("    keeper.load()", "    match keeper.load() { Err(Stop::Fault(Fault::OutOfMemory)) => Err(Stop::Fault(Fault::Store)), end => end }"))
+plant(L, 4, "store_fault_before_the_headline_reported_as_memory", "load_and_show", HEADLINE, "A load that the store stopped is reported as refused memory.",
+      ("        Err(stop) => Err(stop),", "        Err(Stop::Fault(_)) => Err(Stop::Fault(ob_base::Fault::OutOfMemory)), Err(stop) => Err(stop),"))
 plant(L, 1, "amounts_given_twice", "calls::moves_out", CALLS, "The amounts are given to the sink twice.",
       ("    keeper.moves_out(sink)", "    let _ = keeper.moves_out(sink); keeper.moves_out(sink)"))
 plant(L, 1, "no_migration_where_a_book_is", "calls::migrate", CALLS, "Where there is a book in memory no table is migrated.",
@@ -311,56 +330,25 @@ plant(L, 1, "law_of_crashes_without_its_ground", "restart_law", LAWS, "The law o
 
 def answers(function, uses, body):
     file = f"proofs/{function}/Answers.antt"
-    return file, "\n".join([*uses, f"use Rattle.ob_lists.proofs.{function.replace('/', '.')}.Goals as goal", "", "pub returns : goal.returns", "returns g c =", *["    " + x for x in body]]) + "\n"
+    begun = function in ("lists/create_act_restart_load", "lists/create_import_restart_load")
+    goal = "returns-clause-begun" if begun else "returns"
+    rest = ["", "pub returns-clause-created : goal.returns-clause-created", "returns-clause-created g c = (c.create-made.new.self, c.create-made.ensures.created)"] if begun else []
+    return file, "\n".join([*uses, f"use Rattle.ob_lists.proofs.{function.replace('/', '.')}.Goals as goal", "", f"pub {goal} : goal.{goal}", f"{goal} g c =", *["    " + x for x in body], *rest]) + "\n"
 
 REFL = "use Rattle.std.proofs.Common.{refl}"
 FINDS = "use Rattle.ob_lists.proofs.Standings.{finds}"
 TOLD = ["use Rattle.std.specs.Prelude.{◌++◌}", "use Rattle.ob_store.specs.Acting.{under}", "use Rattle.ob_lists.specs.Standing.{MayBe, told_by}"]
-proof("good_book_told_as_of_version_1_at_last", *answers("lists/act_load_load", [REFL], ["λ clean b told stands. refl"]))
-proof("last_load_told_as_a_fault", *answers("lists/act_load_load", [], ["λ clean b told stands. tt"]))
 proof("command_not_sent_and_told_as_refused", *answers("lists/act_load_load", ["use Rattle.ob_lists.specs.Standing.{MayBe}", FINDS], [
     "λ clean b told stands.",
     "let loaded = c.load-2.ensures.goes.clean clean in",
     "let was = c.load.ensures.goes.stands loaded b told stands in",
-    "finds g.S.Store (MayBe b told) c.load.new.keeper c.load-2.new.keeper c.load-2.result (c.load-2.ensures.loads clean b told was)"]))
+    "finds g.S.Store (MayBe b told) c.load.new.keeper c.load-2.new.keeper c.load-2.result was c.load-2.ensures.load (c.load-2.ensures.loads clean b told was)"]))
 proof("one_load_of_two", *answers("lists/act_load_load", [*TOLD, FINDS], [
     "λ clean b told stands.",
     "let all = told_by (under c.args.reference c.args.command) c.act-sent.result ++ told in",
     "let sent = c.load.ensures.goes.clean clean in",
-    "finds g.S.Store (MayBe b all) c.act-sent.new.keeper c.load.new.keeper c.load.result (c.load.ensures.loads clean b all (c.act-sent.ensures.goes.stands sent b told stands))"]))
-proof("no_second_book_tried", *answers("lists/act_create", [REFL], ["λ clean b told stands. (refl, c.act-sent.ensures.goes.stands clean b told stands)"]))
-proof("second_book_before_the_command", *answers("lists/act_create", [], [
-    "λ clean b told stands.",
-    "let again = c.create_again-again in",
-    "let made = c.act-sent.ensures.goes.clean clean in",
-    "(again.ensures.refused made b told stands, c.act-sent.ensures.goes.stands clean b told (again.ensures.goes.stands made b told stands))"]))
-proof("found_book_told_as_a_fault", "proofs/lists/create_restart_load/Answers.antt", """use Rattle.std.proofs.Common.{inl, ℕ, List, Result, Ok, Err, refl}
-use Rattle.std.specs.Prelude.{⊤}
-use Rattle.ob_base.specs.declared.stop.Stop.{Stop}
-use Rattle.ob_base.specs.declared.stop.Stop.TheVariants.{Refused, Fault}
-use Rattle.ob_base.specs.declared.stop.Fault.TheVariants.{OutOfMemory, Store, Reopen, Input, Output}
-use Rattle.ob_store.specs.Keepers.{Ghosts, KeeperValue}
-use Rattle.ob_lists.specs.Going.{Begun}
-use Rattle.ob_lists.proofs.Beginning.{begun}
-use Rattle.ob_lists.proofs.lists.create_restart_load.Goals as goal
-
-lost : {R : Type 0} (h : Ghosts R) (first : List ℕ) (days : ℕ) (zone : List ℕ) (r found : Result ⊤ Stop) (new : KeeperValue R) → Begun h first days zone r new found → Begun h first days zone r new (Err (Fault Store))
-lost h first days zone (Ok done) found new b = (b.0, b.1, tt)
-lost h first days zone (Err (Refused refusal)) found new b = refl
-lost h first days zone (Err (Fault OutOfMemory)) found new b = refl
-lost h first days zone (Err (Fault Store)) found new b = (b.0, b.1, inl tt)
-lost h first days zone (Err (Fault Reopen)) found new b = refl
-lost h first days zone (Err (Fault Input)) found new b = refl
-lost h first days zone (Err (Fault Output)) found new b = refl
-
-pub returns : goal.returns
-returns g c =
-    λ clean held.
-    lost g.R.Store c.args.first.now c.args.days c.args.zone.now c.create-made.result c.load-found.result c.load-found.new.self
-    (begun g.S.Store g.R.Store g.met.S.Store.settled g.met.R.Store.settled
-    c.load_law.ensures c.args.keeper c.create-made.new.self c.restart-next.result c.load-found.new.self held c.restart-next.ensures c.load-found.result c.load-found.ensures clean
-    c.args.first.now c.args.days c.args.zone.now c.create-made.result c.create-made.ensures.created)
-""")
+    "let was = c.act-sent.ensures.goes.stands sent b told stands in",
+    "finds g.S.Store (MayBe b all) c.act-sent.new.keeper c.load.new.keeper c.load.result was c.load.ensures.load (c.load.ensures.loads clean b all was)"]))
 NUM = ["use Rattle.std.proofs.Common.{[], ◌++◌}", "use Rattle.ob_store.specs.Acting.{under}", "use Rattle.ob_store.proofs.Restarting.{numbers_after}",
        "use Rattle.ob_lists.specs.Standing.{told_by}", "use Rattle.ob_lists.proofs.Numbering.{begun_numbered}"]
 proof("no_load_behind_the_crash", *answers("lists/create_act_restart_load", NUM, [
@@ -375,7 +363,6 @@ proof("no_load_behind_the_crash", *answers("lists/create_act_restart_load", NUM,
     "  goes.stands clean b (told ++ []) (c.act-sent.ensures.goes.stands (goes.clean clean) b [] stands),",
     "  numbers_after g.S.Store g.R.Store sent next.result next.ensures.opens c.crash_law.ensures (c.act-sent.ensures.numbered b [] stands numbers),",
     "))"]))
-proof("made_book_told_as_refused", *answers("lists/create_act_restart_load", [], ["λ clean. tt"]))
 
 
 def left_out(function, call):
@@ -401,7 +388,7 @@ proof("no_migration_before_the_load", *answers("lists/migrate_restart_migrate_lo
     "let goes = c.restart_law.ensures c.args.keeper next.result next.ensures in",
     "let opened = c.load-found.ensures.goes.clean clean in",
     "let was = goes.stands opened b told stands in",
-    "finds g.R.Store (MayBe b told) next.result c.load-found.new.keeper c.load-found.result (c.load-found.ensures.loads clean b told was)"]))
+    "finds g.R.Store (MayBe b told) next.result c.load-found.new.keeper c.load-found.result was c.load-found.ensures.load (c.load-found.ensures.loads clean b told was)"]))
 proof("no_audit_behind_the_load", *answers("lists/migrate_load_audit", [], [
     "λ clean b told stands.",
     "c.load.ensures.goes.stands clean b told (c.migrate.ensures.goes.stands (c.load.ensures.goes.clean clean) b told stands)"]))

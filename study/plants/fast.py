@@ -7,7 +7,8 @@ def stamp(self):
     if self.folder not in _stamps: _stamps[self.folder] = _plain(self)
     return _stamps[self.folder]
 rtlib.Crate.stamp = stamp
-tree, name, flags = '/work/p/plants/tree', sys.argv[1], sys.argv[2:]
+name, flags = sys.argv[1], sys.argv[2:]
+tree = f'/work/p/pt/{name}'
 os.chdir(f'{tree}/crates/{name}')
 known = {}
 c = rtlib.Crate(f'{tree}/crates/{name}', tree, known); known[c.folder] = c

@@ -3,7 +3,7 @@ import json, re, shutil, sys
 from pathlib import Path
 
 sys.argv, given = ["plants.py", "none"], sys.argv[1:]
-exec(open("/work/p/plants/plants.py").read().split("match sys.argv[1]:")[0])
+exec(open("/work/p/study/plants/plants.py").read().split("match sys.argv[1]:")[0])
 crate, tree, names = given[0], Path(given[1]), given[2:]
 IN_PLACE = {"Telling::write", "Complaints::tell", "Server::serve", "Server::take", "InputFile::open", "OutputFile::open", "Sockets::bind", "Telling::begin", "main"}
 

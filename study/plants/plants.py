@@ -8,7 +8,7 @@ import sys
 from pathlib import Path
 
 HERE = Path(__file__).parent
-REPO = Path("/work/w/plant63")
+REPO = Path("/work/w/int")
 P = []  # crate, round, name, function, file, says, [(old, new)..]
 
 

@@ -1,8 +1,9 @@
 #!/bin/sh
-# runall.sh CRATE LOG [FLAGS]: all plants of a crate
-cd /work/p/plants
-words=$(python3 merge.py $1 tree) || exit 1
-cd tree/crates/$1
-echo "START $(date)" > $2
-python3 /work/p/plants/fast.py $1 $words $3 >> $2 2>&1
-echo "STATUS $? $(date)" >> $2
+# runall.sh CRATE LOG [NAME..]: all bodies of a crate at once, or some
+crate=$1; log=$2; shift 2
+cd /work/p/study/plants
+[ -d /work/p/pt/$crate ] || python3 mktree.py $crate || exit 1
+words=$(python3 merge.py $crate /work/p/pt/$crate "$@") || exit 1
+echo "START $(date)" > $log
+python3 /work/p/study/plants/fast.py $crate $words >> $log 2>&1
+echo "STATUS $? $(date)" >> $log

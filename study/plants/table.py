@@ -3,8 +3,8 @@ import json, sys
 from collections import Counter
 from pathlib import Path
 sys.argv = ["x", "none"]
-HERE = Path("/work/p/plants")
-exec((HERE / "plants.py").read_text().split("match sys.argv[1]:")[0].replace("Path(__file__).parent", "Path('/work/p/plants')"))
+HERE = Path("/work/p/study/plants")
+exec((HERE / "plants.py").read_text().split("match sys.argv[1]:")[0].replace("Path(__file__).parent", "Path('/work/p/study/plants')"))
 ns = {}; exec((HERE / "verdicts.py").read_text(), ns); V = ns["V"]
 tried = json.loads((HERE / "tried.json").read_text()) if (HERE / "tried.json").exists() else {}
 head = (HERE / "HEAD.md").read_text() if (HERE / "HEAD.md").exists() else ""

@@ -3,7 +3,6 @@ SOCK = "line: a listener takes the streams, each is read and answered over its s
 MAIN = "line: main, job_of, words_of, do_words, do_job, run_on_book pass on and end as the functions above"
 PATH = "line: the file of a path is opened, and nothing else done to it"
 PRIOR = "line: what the calls before the last of a list do and answer"
-WHY = "line: why the last call of a list failed"
 FS, LOOP, PAGES = "tests/test_files_sockets.py", "ob_desk_tests/src/loopback.rt", "paste_pages"
 V = {
 # ob_desk
@@ -103,7 +102,7 @@ V = {
 "version_1_told_as_a_fault": ("R", "load (load: dropped)"),
 "no_audit_where_a_book_is": ("R", "audit (answers, audited)"),
 "reply_of_the_next_command": ("R", "reply_of (replies)"),
-"refused_plan_told_as_a_fault": ("P", "line: that a plan has no fault but refused memory", "the keeper's own contract"),
+"refused_plan_told_as_a_fault": ("R", "plan (err)"),
 "plan_without_a_text": ("R", "plan (plans)"),
 "plan_refused_for_another_reason": ("R", "plan (refuses)"),
 "amounts_given_twice": ("R", "moves_out (moves)"),
@@ -120,21 +119,21 @@ V = {
 "amount_of_the_next_key_shown": ("R", "show (shows, none)"),
 "amount_of_the_causes_shown": ("R", "show (shows, none)"),
 "nothing_shown_for_want_of_memory": ("P", "line: a call that may answer out of memory doesn't if memory is available", "ob_store_tests (what ob_headline::shown shows)"),
-"version_1_told_as_a_fault_before_the_headline": ("P", WHY, "the single calls' contracts"),
+"version_1_told_as_a_fault_before_the_headline": ("R", "load_and_show (shows, stops)"),
 "shown_without_a_load": ("S", "the book in memory is one of those that the calls may have led to, and its headline is shown", ""),
-"good_book_told_as_of_version_1": ("P", WHY + " (new)", "load (load: outdated)"),
+"good_book_told_as_of_version_1": ("R", "load_and_show (shows, stops)"),
 "command_not_sent_and_told_as_refused": ("P", PRIOR + " (words added)", "act (answers)"),
-"good_book_told_as_of_version_1_at_last": ("P", WHY + " (new)", "load (load: outdated)"),
-"last_load_told_as_a_fault": ("P", WHY + " (new)", "load (load), ob_store::load_law"),
+"good_book_told_as_of_version_1_at_last": ("R", "act_load_load (Finds)"),
+"last_load_told_as_a_fault": ("R", "act_load_load (Finds)"),
 "one_load_of_two": ("P", PRIOR, "-"),
-"no_second_book_tried": ("P", "new line: act_create may answer any refusal", "create_again (created)"),
-"second_book_of_no_days": ("P", "new line: of which second book act_create's answer is", "create_again (created)"),
-"second_book_before_the_command": ("P", PRIOR, "-"),
-"found_book_told_as_a_fault": ("P", WHY + " (new)", "load (load), ob_store::load_law"),
+"no_second_book_tried": ("R", "act_create (created)"),
+"second_book_of_no_days": ("R", "act_create (created)"),
+"second_book_before_the_command": ("R", "act_create (created)"),
+"found_book_told_as_a_fault": ("R", "create_restart_load (Begun: Finds)"),
 "book_of_one_day": ("R", "create_restart_load (Begun: IsPeriodText)"),
 "second_book_behind_the_crash": ("R", "create_restart_load (Begun)"),
 "no_load_behind_the_crash": ("P", "new line: create_act_restart_load loads the book", "load (loads)"),
-"made_book_told_as_refused": ("P", "new line: .. and report one that was made", "Keeper::create (created)"),
+"made_book_told_as_refused": ("R", "create_act_restart_load (created)"),
 "command_left_out_before_the_crash": ("P", PRIOR + " (words added)", "act (answers)"),
 "acknowledged_command_told_as_sent_twice": ("R", "create_act_restart_load (BegunNumbered)"),
 "no_migration_before_the_load": ("P", PRIOR, "migrate (migrated, kept)"),
@@ -146,4 +145,14 @@ V = {
 "no_import_and_told_as_without_a_book": ("P", PRIOR + " (words added)", "import_text (reopen)"),
 "law_of_written_replies_without_its_ground": ("R", "told_law (written)"),
 "law_of_crashes_without_its_ground": ("R", "restart_law (RestartLaw)"),
+# new with the clauses on interrupted calls, on the opening of a file and on faults of lists
+"request_read_with_all_retries": ("R", "serve_turn (tries)"),
+"reply_written_with_all_retries": ("R", "reply_to (tries)"),
+"each_request_takes_a_retry": ("R", "serve_requests (tries)"),
+"refused_memory_reported_as_the_stores": ("P", "line: that keeper_of reports the error that sqlite gave", "none"),
+"unopened_book_reported_as_memory": ("R", "stop_of_open (memory)"),
+"unopened_file_reported_as_no_book": ("R", "stop_of_open (faults)"),
+"refused_memory_of_a_reply_reported_as_the_stores": ("R", "reply_of (replies)"),
+"refused_memory_of_a_load_reported_as_the_stores": ("R", "load (load, loads)"),
+"store_fault_before_the_headline_reported_as_memory": ("R", "load_and_show (stops)"),
 }
