@@ -4,13 +4,18 @@ ghost use Rattle.ob_index.specs.Short.{AreShort};
 use crate::marked_days::engineer;
 use crate::moved::period_of;
 use ob_index::indices::indices;
-use ob_index::{Counts, Indices, Marks, annual_text};
+use ob_index::{AnnualTable, CauseRow, Counts, FeederRow, Indices, Marks, annual_text};
 use ob_net::Name;
 use std::process::Abort;
 use std::test::Fail;
 
-fn name(rt: &impl Abort, text: &[u8]) -> Name {
-    Name::read(text).expect(rt, "a name")
+fn cause(rt: &impl Abort, code: u8, text: &[u8], amount: u64) -> CauseRow {
+    let name = Name::read(text).expect(rt, "a name");
+    CauseRow { code, name, amount }
+}
+
+fn feeder(feeder: u8, amount: u64) -> FeederRow {
+    FeederRow { feeder, amount }
 }
 
 // The indices of ten customers in service for a day, five of them without supply for half an hour.
@@ -59,22 +64,22 @@ fn table_of_one_day(rt: HostRuntime) -> Result<(), Fail> {
     let period = period_of(rt.alloc(), b"2024-01-01", 1, b"UTC0")?;
     let marks = Marks::new(rt.alloc(), 1)?;
     let x = half_an_hour();
-    let text = annual_text(
-        rt.alloc(),
-        &period,
-        864_000,
-        9000,
-        &[
-            (0, name(&rt, b"UNASSIGNED"), 0),
-            (3, name(&rt, b"STORM"), 9000),
-            (4, name(&rt, b"PLANNED"), 0),
+    let table = AnnualTable {
+        period: &period,
+        in_service: 864_000,
+        without_supply: 9000,
+        causes: &[
+            cause(&rt, 0, b"UNASSIGNED", 0),
+            cause(&rt, 3, b"STORM", 9000),
+            cause(&rt, 4, b"PLANNED", 0),
         ],
-        &[(1, 9000), (2, 0)],
-        &[9000],
-        &marks,
-        &x,
-        &x,
-    )?;
+        feeders: &[feeder(1, 9000), feeder(2, 0)],
+        days: &[9000],
+        marks: &marks,
+        all: &x,
+        unmarked: &x,
+    };
+    let text = annual_text(rt.alloc(), &table)?;
     assert!(rt; text.starts_with(ONE_DAY));
     Ok(())
 }
@@ -101,8 +106,18 @@ fn marked_days_and_undefined_indices(rt: HostRuntime) -> Result<(), Fail> {
     assert!(rt; marks.mark(0, engineer) == Ok(()));
     assert!(rt; marks.mark(2, engineer) == Ok(()));
     let x = nobody();
-    let days = &[0, 0, 1];
-    let text = annual_text(rt.alloc(), &period, 0, 1, &[], &[], days, &marks, &x, &x)?;
+    let table = AnnualTable {
+        period: &period,
+        in_service: 0,
+        without_supply: 1,
+        causes: &[],
+        feeders: &[],
+        days: &[0, 0, 1],
+        marks: &marks,
+        all: &x,
+        unmarked: &x,
+    };
+    let text = annual_text(rt.alloc(), &table)?;
     assert!(rt; text.starts_with(DAYS));
     assert!(rt; text.ends_with(END));
     Ok(())

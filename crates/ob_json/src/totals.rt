@@ -1,8 +1,7 @@
 //! The totals as JSON: the customer-seconds without supply by cause, day and home feeder.
-ghost use Rattle.std.specs.Prelude.{◌≡◌, ◌≤◌, ◌<◌, ◌-◌, ℕ, [], ◌∷◌, ◌++◌, map, IfOk, IfErr, OnOk};
-ghost use Rattle.std.specs.List.{filter, range_with_len};
+ghost use Rattle.std.specs.Prelude.{◌≡◌, [], ◌∷◌, ◌++◌, map, IfOk, IfErr, OnOk};
+ghost use Rattle.std.specs.List.{filter};
 ghost use Rattle.ob_base.specs.Stop.{out_of_memory};
-ghost use Rattle.ob_post.specs.Keys.{IsKey, keys};
 ghost use Rattle.ob_post.specs.Postings.{amount_of, day_count, total_of};
 ghost use Rattle.ob_post.specs.declared.Dim.TheVariants.{Day as Total};
 ghost use Rattle.serde_json.specs.View.{view};
@@ -10,7 +9,7 @@ ghost use Rattle.ob_json.specs.Totals.{has_amount, row_data, rows_data, totals_d
 ghost use Rattle.ob_json.specs.Totals as definition;
 
 use ob_base::Stop;
-use ob_post::{CAUSES, Dim, FEEDERS, Postings};
+use ob_post::{Dim, Postings};
 use serde_json::{Value, json};
 use std::alloc::{AllocError, Global};
 
@@ -35,30 +34,22 @@ fn totals(alloc: Global, postings: &Postings, days: u16) -> Result<Value, AllocE
         (day_count postings.now) (total_of postings.now Total)) }
 {
     json!(in alloc; {
-        "cause": rows(alloc, postings, Dim::Cause, 0, CAUSES)?,
-        "day": rows(alloc, postings, Dim::Day, 0, days)?,
-        "feeder": rows(alloc, postings, Dim::Feeder, 1, FEEDERS + 1)?,
+        "cause": rows(alloc, postings, Dim::Cause, days)?,
+        "day": rows(alloc, postings, Dim::Day, days)?,
+        "feeder": rows(alloc, postings, Dim::Feeder, days)?,
         "total": postings.total(Dim::Day)
     })
 }
 
-// The rows of a dimension, for the keys from the first up to the end, without those whose amount is
-// 0.
-fn rows(
-    alloc: Global,
-    postings: &Postings,
-    dim: Dim,
-    first: u16,
-    end: u16,
-) -> Result<Value, AllocError>
-    requires order { first ≤ end }
-    requires exist { (key : ℕ) → first ≤ key → key < end → IsKey (day_count postings.now) dim key }
-    requires all { keys (day_count postings.now) dim ≡ range_with_len first (end - first) }
+// The rows of a dimension, without those whose amount is 0.
+fn rows(alloc: Global, postings: &Postings, dim: Dim, days: u16) -> Result<Value, AllocError>
+    requires days { days ≡ day_count postings.now }
     ensures data { IfOk result (λ v. view v ≡ rows_data (amount_of postings.now)
         (day_count postings.now) dim) }
 {
     let mut rows = Vec::new(alloc);
-    for key in first..end {
+    let keys = dim.keys(days);
+    for key in keys.start..keys.end {
         push_row(alloc, &mut rows, key, postings.amount(dim, key))?;
     }
     Ok(Value::Array(rows))

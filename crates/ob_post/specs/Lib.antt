@@ -12,3 +12,4 @@ pub mod TotalLaws
 pub mod Balances
 pub mod Causes
 pub mod Parts
+pub mod Basis

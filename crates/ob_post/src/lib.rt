@@ -8,6 +8,7 @@
 //! intervals are examined. Used by `ob_json`, `ob_http_replies`, `ob_state` and crates above them.
 #![tactic(auto)]
 
+mod basis;
 mod difference;
 mod differing;
 pub mod laws;
@@ -18,10 +19,12 @@ mod postings;
 mod run_amounts;
 mod run_causes;
 
+pub use basis::Basis;
 pub use difference::moves;
 pub use posting::Posting;
 pub use postings::Postings;
 pub use run_amounts::{amounts, post_run, post_runs};
+use std::ops::Range;
 
 /// The number of causes: 0 (unassigned) to 63.
 pub const CAUSES: u16 = 64;
@@ -44,8 +47,9 @@ pub enum Dim {
 }
 
 impl Dim {
-    ghost use Rattle.std.specs.Prelude.{◌≡◌};
-    ghost use Rattle.ob_post.specs.Keys.{dim_number, dim_word};
+    ghost use Rattle.std.specs.Prelude.{◌≡◌, ◌-◌, ◌≤◌, ◌<◌, ℕ};
+    ghost use Rattle.std.specs.List.{range_with_len};
+    ghost use Rattle.ob_post.specs.Keys.{dim_number, dim_word, IsKey, keys};
 
     /// The number of the dimension, from 1 to 3.
     pub fn number(&self) -> u8
@@ -66,6 +70,20 @@ impl Dim {
             Dim::Cause => "cause",
             Dim::Feeder => "feeder",
             Dim::Day => "day",
+        }
+    }
+
+    /// The keys of the dimension in a period of `days` days: causes 0 to 63, feeders 1 to 255, or
+    /// the days from 0.
+    pub fn keys(&self, days: u16) -> Range<u16>
+        ensures order { result.start ≤ result.end }
+        ensures all { keys days self.now ≡ range_with_len result.start (result.end - result.start) }
+        ensures are { (key : ℕ) → result.start ≤ key → key < result.end → IsKey days self.now key }
+    {
+        match self {
+            Dim::Cause => 0..CAUSES,
+            Dim::Feeder => 1..FEEDERS + 1,
+            Dim::Day => 0..days,
         }
     }
 }

@@ -1,5 +1,5 @@
 -- What the rules let in of the steps of a change, where they let in the change.
-use Rattle.std.proofs.Common.{◌≡◌, ◌≢◌, ◌∙◌, ap, refl, sym, subst, subst₂, ℕ, zero, suc, ◌+◌, ◌<◌, ◌≤◌, ◌^◌, Bool, true, false, List, [], ◌∷◌, ◌++◌, length, map, take, get_or, codes, arith, inl, inr}
+use Rattle.std.proofs.Common.{◌≡◌, ◌≢◌, ◌∙◌, ap, refl, sym, subst, subst₂, ℕ, zero, suc, ◌+◌, ◌-◌, ◌<◌, ◌≤◌, ◌^◌, Bool, true, false, List, [], ◌∷◌, ◌++◌, length, map, take, get_or, codes, arith, inl, inr}
 use Rattle.std.specs.List.{All, AllByRecursion, AllPairs, list_any, range_with_len}
 use Rattle.std.specs.Prelude.{if◌then◌else◌}
 use Rattle.std.proofs.lemmas.Bool.{or_from, and_left, and_right, cases_eq}
@@ -226,7 +226,7 @@ lets_days days t it =
     next_zeros (causes ++ feeders) last t (subst (λ l. LetsZeros l t) (sym (append_assoc causes feeders last)) (lets_three days t it))
 
 -- the next key of a range is let in once those before it are there
-pub lets_key : (dim : Dim) (first count at : ℕ) (t : Tables) → at < count → LetsZeros (keys_of dim (range_with_len first count)) t → LetsPosting (dim_number dim) (first + at) (with_zeros (keys_of dim (range_with_len first at)) t)
+lets_key : (dim : Dim) (first count at : ℕ) (t : Tables) → at < count → LetsZeros (keys_of dim (range_with_len first count)) t → LetsPosting (dim_number dim) (first + at) (with_zeros (keys_of dim (range_with_len first at)) t)
 lets_key dim first count at t low it =
     let pair : ℕ → Dim × ℕ = λ key. (dim, key) in
     let long : length (keys_of dim (range_with_len first count)) ≡ count = length-map-range_with_len pair first count in
@@ -245,6 +245,14 @@ lets_key dim first count at t low it =
     let written : list_any test rows ≡ false =
     list_any_none test rows (All-map (λ r. test r ≡ false) (amount_row no_amount) before (All-map (λ k. test (amount_row no_amount k) ≡ false) pair (range_with_len first at) apart)) in
     (list_any-append test (t Posting) rows ∙ or_from _ _ fresh written, omega (arith, long, many, low, length-append (t Posting) rows, length-map before (amount_row no_amount), it.room))
+
+-- the same for a key, by its number
+pub lets_key_from : (dim : Dim) (first end key : ℕ) (t : Tables) → first ≤ key → key < end → LetsZeros (keys_of dim (range_with_len first (end - first))) t
+    → LetsPosting (dim_number dim) key (with_zeros (keys_of dim (range_with_len first (key - first))) t)
+lets_key_from dim first end key t from low it =
+    let here : first + (key - first) ≡ key = omega (arith, from) in
+    subst (λ (k : ℕ). LetsPosting (dim_number dim) k (with_zeros (keys_of dim (range_with_len first (key - first))) t)) here
+    (lets_key dim first (end - first) (key - first) t (omega (arith, from, low)) it)
 
 -- ---- the keys of a new book
 pairs_append : {X : Type 0} (R : X → X → Type 0) (xs ys : List X) → AllPairs R xs → AllPairs R ys → All (λ x. All (R x) ys) xs → AllPairs R (xs ++ ys)

@@ -1,5 +1,5 @@
 -- Rows of amounts, one key after another.
-use Rattle.std.proofs.Common.{◌≡◌, ℕ, ◌+◌, IsTrue, List, [], ◌∷◌, ◌++◌, Bool, true, false, map, refl, sym, ap, subst, ◌∙◌}
+use Rattle.std.proofs.Common.{◌≡◌, ◌≤◌, ℕ, ◌+◌, ◌-◌, arith, IsTrue, List, [], ◌∷◌, ◌++◌, Bool, true, false, map, refl, sym, ap, subst, ◌∙◌}
 use Rattle.std.specs.Prelude.{if◌then◌else◌, ◌==◌}
 use Rattle.std.specs.List.{range_with_len}
 use Rattle.std.specs.List.Sorted.{IsPermutation}
@@ -50,17 +50,19 @@ none : (here : Bool) (rows : List Columns) → rows ≡ (if here then rows ++ []
 none true rows = sym (append-nil rows)
 none false rows = refl
 
-pub zeros_none : (a : State) (dim : Dim) (first : ℕ) → IsTrue a.is_open → IsTrue a.in_transaction → Makes a a Always (with_zeros (keys_of dim (range_with_len first 0)))
+pub zeros_none : (a : State) (dim : Dim) (first : ℕ) → IsTrue a.is_open → IsTrue a.in_transaction → Makes a a Always (with_zeros (keys_of dim (range_with_len first (first - first))))
 zeros_none a dim first live inside =
-    makes_as a a (λ t. t) (with_zeros []) (λ t table. none (tree_of Posting == tree_of table) (t table))
-    (makes_none a Always live inside)
+    let nothing : first - first ≡ 0 = omega arith in
+    rw nothing (makes_as a a (λ t. t) (with_zeros []) (λ t table. none (tree_of Posting == tree_of table) (t table))
+    (makes_none a Always live inside))
 
 -- one key more
-pub next_key : (a b c : State) (dim : Dim) (first at : ℕ) → Makes a b Always (with_zeros (keys_of dim (range_with_len first at)))
-    → Makes b c Always (with_row Posting (posting_row (dim_number dim) (first + at) 0)) → Makes a c Always (with_zeros (keys_of dim (range_with_len first (at + 1))))
-next_key a b c dim first at one two =
-    subst (λ l. Makes a c Always (with_zeros l)) (sym (map-range_with_len_more (λ key. (dim, key)) first at (first + at) refl))
-    (zeros_then a b c (keys_of dim (range_with_len first at)) (keys_of dim ((first + at) ∷ [])) one two)
+pub next_key : (a b c : State) (dim : Dim) (first key : ℕ) → first ≤ key → Makes a b Always (with_zeros (keys_of dim (range_with_len first (key - first))))
+    → Makes b c Always (with_row Posting (posting_row (dim_number dim) key 0)) → Makes a c Always (with_zeros (keys_of dim (range_with_len first (key + 1 - first))))
+next_key a b c dim first key from one two =
+    let next : key + 1 - first ≡ key - first + 1 = omega (arith, from) in
+    rw next (subst (λ l. Makes a c Always (with_zeros l)) (sym (map-range_with_len_more (λ k. (dim, k)) first (key - first) key (omega (arith, from))))
+    (zeros_then a b c (keys_of dim (range_with_len first (key - first))) (keys_of dim (key ∷ [])) one two))
 
 -- the keys of each dimension, as ranges
 pub ranges_are_all : (days : ℕ) → keys_of dim.Cause (range_with_len 0 64) ++ (keys_of dim.Feeder (range_with_len 1 255) ++ keys_of dim.Day (range_with_len 0 days)) ≡ all_keys days

@@ -1,5 +1,5 @@
 //! Creates the tables of a new book, with their first rows.
-ghost use Rattle.std.specs.List.{range_with_len};
+ghost use Rattle.ob_post.specs.Keys.{keys};
 ghost use Rattle.ob_sql_rows.specs.Steps.{Changes};
 ghost use Rattle.ob_sql_rows.specs.Creation.{Creates};
 ghost use Rattle.ob_sql_rows.specs.Rows.{Always};
@@ -9,7 +9,7 @@ ghost use Rattle.ob_sql_write.specs.NewBook.{LetsHeading, LetsNew, LetsZeros, ne
 
 use ob_base::Stop;
 use ob_net::grid;
-use ob_post::{CAUSES, Dim, FEEDERS};
+use ob_post::Dim;
 use ob_sql_rows::{add_cause, add_meta, add_node, add_posting, create_tables};
 use ob_state::unassigned;
 use sqlite::{Alter, Transaction};
@@ -49,25 +49,20 @@ fn write_amounts<S: Alter>(tx: &mut Transaction<'_, S>, days: u16) -> Result<(),
     ensures { ChangesOpen S.Store tx.old.conn tx.new.conn result Always
         (LetsZeros (all_keys days)) (with_zeros (all_keys days)) }
 {
-    write_keys(tx, Dim::Cause, 0, CAUSES)?;
-    write_keys(tx, Dim::Feeder, 1, FEEDERS)?;
-    write_keys(tx, Dim::Day, 0, days)
+    write_keys(tx, Dim::Cause, days)?;
+    write_keys(tx, Dim::Feeder, days)?;
+    write_keys(tx, Dim::Day, days)
 }
 
-/// Adds a row with the amount 0 for each key of a dimension, from the first key on.
-fn write_keys<S: Alter>(
-    tx: &mut Transaction<'_, S>,
-    dim: Dim,
-    first: u16,
-    count: u16,
-) -> Result<(), Stop>
+/// Adds a row with the amount 0 for each key of a dimension.
+fn write_keys<S: Alter>(tx: &mut Transaction<'_, S>, dim: Dim, days: u16) -> Result<(), Stop>
     ensures { ChangesOpen S.Store tx.old.conn tx.new.conn result Always
-        (LetsZeros (keys_of dim (range_with_len first count)))
-        (with_zeros (keys_of dim (range_with_len first count))) }
+        (LetsZeros (keys_of dim (keys days dim))) (with_zeros (keys_of dim (keys days dim))) }
 {
     let dim_no = u32::from(dim.number());
-    'keys: for at in 0..count {
-        add_posting(tx, dim_no, u32::from(first) + u32::from(at))?;
+    let keys = dim.keys(days);
+    for key in keys.start..keys.end {
+        add_posting(tx, dim_no, u32::from(key))?;
     }
     Ok(())
 }

@@ -1,5 +1,5 @@
 -- What a customer that is connected, or has another service, moves.
-use Rattle.std.proofs.Common.{◌≡◌, ◌∙◌, sym, ap, refl, subst, ℕ, ◌<◌, ◌≤◌, ◌==◌, Bool, true, false, List, length, Option, Some, None, unwrap_or, if◌then◌else◌, arith}
+use Rattle.std.proofs.Common.{◌≡◌, sym, ap, refl, subst, ℕ, ◌<◌, ◌≤◌, ◌==◌, Bool, true, false, List, length, Option, Some, None, unwrap_or, if◌then◌else◌, arith}
 use Rattle.std.specs.List.{AllPairs, find}
 use Rattle.std.proofs.lemmas.List.{length-map}
 use Rattle.ob_cust.specs.declared.Customer.{Customer as ACustomer}

@@ -20,8 +20,8 @@ use crate::retiming::Retiming;
 use crate::state::State;
 use ob_base::{Life, Stop};
 use ob_net::{Device, Node};
-use ob_post::Posting;
 use ob_post::laws::{section_laws, total_laws};
+use ob_post::{Basis, Posting};
 use ob_sweep::{Change, Delta, Timeline};
 use std::alloc::Global;
 
@@ -223,11 +223,16 @@ fn repost<T: Timeline>(
     ensures err { IfErr result (λ stop. stop ≡ out_of_memory) }
 {
     section_laws();
-    let (sheet, roll, period) = (&state.sheet, &state.roll, &state.period);
     // A bus, not a section: it has no customers, so no amount changes.
     let Some(feeder) = state.net.feeder_of(node) else {
         return Ok(());
     };
-    posting.take(timeline.runs_of(node), sheet, feeder, roll, period)?;
-    posting.give(delta.runs(node), sheet, feeder, roll, period)
+    let basis = Basis {
+        sheet: &state.sheet,
+        feeder,
+        roll: &state.roll,
+        period: &state.period,
+    };
+    posting.take(timeline.runs_of(node), &basis)?;
+    posting.give(delta.runs(node), &basis)
 }

@@ -16,8 +16,8 @@ use crate::retiming::Retiming;
 use crate::state::State;
 use ob_base::Stop;
 use ob_cust::{Customer, Roll};
-use ob_post::Posting;
 use ob_post::laws::{roll_laws, section_laws, total_laws};
+use ob_post::{Basis, Posting};
 use ob_sweep::Timeline;
 use std::alloc::Global;
 
@@ -98,7 +98,13 @@ fn take_customer<T: Timeline>(
     };
     let roll = Roll::of_one(alloc, customer)?;
     let runs = timeline.runs_of(customer.section);
-    posting.take(runs, &state.sheet, feeder, &roll, &state.period)
+    let basis = Basis {
+        sheet: &state.sheet,
+        feeder,
+        roll: &roll,
+        period: &state.period,
+    };
+    posting.take(runs, &basis)
 }
 
 // Adds the amounts of one customer.
@@ -127,5 +133,11 @@ fn give_customer<T: Timeline>(
     };
     let roll = Roll::of_one(alloc, customer)?;
     let runs = timeline.runs_of(customer.section);
-    posting.give(runs, &state.sheet, feeder, &roll, &state.period)
+    let basis = Basis {
+        sheet: &state.sheet,
+        feeder,
+        roll: &roll,
+        period: &state.period,
+    };
+    posting.give(runs, &basis)
 }

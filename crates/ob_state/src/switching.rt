@@ -16,7 +16,7 @@ use crate::retiming::Retiming;
 use crate::state::State;
 use ob_base::Stop;
 use ob_post::laws::{cause_laws, section_laws, total_laws};
-use ob_post::{Moved, Posting};
+use ob_post::{Basis, Moved, Posting};
 use ob_sweep::{Change, Delta, Timeline};
 use std::alloc::Global;
 
@@ -179,14 +179,13 @@ fn post_node<T: Timeline>(
         return Ok(());
     };
     let old = timeline.runs_of(node);
-    posting.relabel(
-        old,
-        &state.sheet,
-        change,
+    let basis = Basis {
+        sheet: &state.sheet,
         feeder,
-        &state.roll,
-        &state.period,
-    )
+        roll: &state.roll,
+        period: &state.period,
+    };
+    posting.relabel(old, &basis, change)
 }
 
 // Adds the changes of amounts of a touched section: those of the outage intervals that change.
@@ -217,13 +216,11 @@ fn post_touched<T: Timeline>(
     let Some(feeder) = state.net.feeder_of(node) else {
         return Ok(());
     };
-    posting.replace(
-        timeline.runs_of(node),
-        delta.runs(node),
-        &state.sheet,
-        change,
+    let basis = Basis {
+        sheet: &state.sheet,
         feeder,
-        &state.roll,
-        &state.period,
-    )
+        roll: &state.roll,
+        period: &state.period,
+    };
+    posting.replace(timeline.runs_of(node), delta.runs(node), &basis, change)
 }

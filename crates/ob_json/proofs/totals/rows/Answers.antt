@@ -1,4 +1,4 @@
-use Rattle.std.proofs.Common.{◌≡◌, ◌∙◌, ap, map, refl, arith, rules}
+use Rattle.std.proofs.Common.{◌≡◌, ◌∙◌, sym, ap, map, refl, arith, rules}
 use Rattle.serde_json.specs.Data.{array}
 use Rattle.serde_json.proofs.Views.{view-Array}
 use Rattle.serde_json.specs.View.{view, items_of}
@@ -12,11 +12,11 @@ pub loop-key-preserved : goal.loop-key-preserved
 loop-key-preserved c =
     c.in_ok-push_row.ensures.data
     ∙ rw c.amount.ensures.value
-    (more_rows c.args.postings.now c.args.dim c.args.first c.loop-key.key (map view c.loop-key.rows.items) (search rules) c.loop-key.invariant)
+    (more_rows c.args.postings.now c.args.dim c.keys-keys.result.start c.loop-key.key (map view c.loop-key.rows.items) (search rules) c.loop-key.invariant)
 
 pub returns : goal.returns
 returns c =
-    let all : c.loop-key.key ≡ c.args.end = omega (arith, c) in
+    let all : c.loop-key.key ≡ c.keys-keys.result.end = omega (arith, c) in
     let same : map view c.loop-key.rows.items ≡ map row_data (rows_of (amount_of c.args.postings.now c.args.dim) (keys (day_count c.args.postings.now) c.args.dim)) =
-    c.loop-key.invariant ∙ rw (all, c.requires.all) refl in
+    c.loop-key.invariant ∙ rw (all, sym c.requires.days, c.keys-keys.ensures.all) refl in
     record { «data» = view-Array c.loop-key.rows ∙ ap (λ rows. array (items_of rows)) same }

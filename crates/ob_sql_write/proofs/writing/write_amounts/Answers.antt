@@ -2,6 +2,7 @@ use Rattle.std.proofs.Common.{◌++◌, ◌∙◌, subst, arith}
 use Rattle.std.specs.List.{range_with_len}
 use Rattle.sqlite.specs.State.{HasCleanDisk}
 use Rattle.sqlite.specs.Held.{state}
+use Rattle.ob_post.specs.Keys.{keys}
 use Rattle.ob_post.specs.declared.Dim.TheVariants.{Cause, Feeder, Day}
 use Rattle.ob_sql_rows.specs.Steps.{Makes}
 use Rattle.ob_sql_rows.specs.Rows.{Always}
@@ -15,6 +16,7 @@ use Rattle.ob_sql_write.proofs.Zeros.{zeros_then, ranges_are_all}
 use Rattle.ob_sql_write.proofs.writing.write_amounts.Goals as goal
 
 pub returns : goal.returns
+unfolding keys
 returns g c =
     let old = state g.S.Store c.args.tx.now.conn.now in
     let one = state g.S.Store c.write_keys.new.tx.conn.now in
@@ -48,12 +50,14 @@ returns g c =
     }
 
 pub returns-in_err-write_keys : goal.returns-in_err-write_keys
+unfolding keys
 returns-in_err-write_keys g c =
     let causes = keys_of Cause (range_with_len 0 64) in
     open_stopped g.S.Store c.args.tx.now.conn c.write_keys.new.tx.conn c.from_residual.result _ c.from_residual.ensures.1
     (stopped_first g.S.Store _ _ _ (lets_weaker _ Always (LetsZeros (all_keys c.args.days)) Always (LetsZeros causes) (λ t any it. (tt, lets_causes c.args.days t it))) (of_open g.S.Store _ _ _ c.in_err-write_keys.ensures))
 
 pub returns-in_err-write_keys-2 : goal.returns-in_err-write_keys-2
+unfolding keys
 returns-in_err-write_keys-2 g c =
     let old = state g.S.Store c.args.tx.now.conn.now in
     let one = state g.S.Store c.write_keys.new.tx.conn.now in

@@ -49,7 +49,7 @@ returns-clause-posted g c = λ old new bal.
     let old_runs : was ≡ runs_in before v = c.runs_of.ensures.runs ∙ c.requires.runs.defined v (is_section (home_feeder before.network v) f ha) in
     let new_runs : is ≡ runs_in b v = (c.requires.delta.named v is c.runs.ensures.runs).0 in
     let takes = subst (λ (s : BookValue). Takes s.state s.state.entries c.args.posting.now c.take.new.self f was) c.state.view_is (rw c.deref.ensures at c.in_ok-take.ensures.taken) in
-    let gives = subst (λ (s : BookValue). Gives s.state s.state.entries c.give.result c.take.new.self c.give.new.self f is) c.state.view_is (rw c.deref-2.ensures at c.give.ensures.given) in
+    let gives = subst (λ (s : BookValue). Gives s.state s.state.entries c.give.result c.take.new.self c.give.new.self f is) c.state.view_is (rw c.deref.ensures at c.give.ensures.given) in
     on_ok_weaker c.give.result
     (λ h. balances_as (day_count b.period) c.give.new.self (together old (of was)) (together new (of is)) (together old (amount_of_node before v)) (together new (amount_of_node b v))
     (λ dim key. ap (λ n. old dim key + n) (section_amount before v f was ha old_runs dim key))

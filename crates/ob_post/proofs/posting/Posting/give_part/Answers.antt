@@ -11,12 +11,12 @@ use Rattle.ob_post.proofs.posting.Posting.give_part.Goals as goal
 
 pub returns-in-Some-clause-given : goal.returns-in-Some-clause-given
 returns-in-Some-clause-given c = λ old new b.
-    let now = changed c.args.change.now c.args.sheet.now.entries in
-    let roll = c.args.roll.now.customers in
-    let days = days_of c.args.period.now in
-    let f = c.args.feeder in
+    let now = changed c.args.change.now c.args.basis.now.sheet.now.entries in
+    let roll = c.args.basis.now.roll.now.customers in
+    let days = days_of c.args.basis.now.period.now in
+    let f = c.args.basis.now.feeder in
     let run = c.in-Some.run' in
     on_ok_weaker c.give_changed.result
-    (λ h. balances_as (day_count c.args.period.now) c.give_changed.new.self old (together new (amount_of_runs now roll days f (run ∷ []))) old (together new (amount_of_part now roll days f c.args.part))
+    (λ h. balances_as (day_count c.args.basis.now.period.now) c.give_changed.new.self old (together new (amount_of_runs now roll days f (run ∷ []))) old (together new (amount_of_part now roll days f c.args.part))
     (λ dim key. refl) (λ dim key. ap (λ (n : ℕ). new dim key + n) (part_as_runs now roll days f c.args.part run dim key c.in-Some.is)) h)
     (c.give_changed.ensures.given old new b)

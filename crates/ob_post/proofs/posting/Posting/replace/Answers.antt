@@ -31,20 +31,20 @@ cut_back entries front mid back h =
 pub replace_between-requires-clause-taken : goal.replace_between-requires-clause-taken
 replace_between-requires-clause-taken c =
     let r = c.compare-runs.result in
-    (within_parts (first_second_of c.args.period.now) (end_second_of c.args.period.now) r.front.now r.taken.now r.back.now
-    (subst (LieWithin (first_second_of c.args.period.now) (end_second_of c.args.period.now)) c.compare-runs.ensures.old c.requires.old)).0
+    (within_parts (first_second_of c.args.basis.now.period.now) (end_second_of c.args.basis.now.period.now) r.front.now r.taken.now r.back.now
+    (subst (LieWithin (first_second_of c.args.basis.now.period.now) (end_second_of c.args.basis.now.period.now)) c.compare-runs.ensures.old c.requires.old)).0
 
 pub replace_between-requires-clause-given : goal.replace_between-requires-clause-given
 replace_between-requires-clause-given c =
     let r = c.compare-runs.result in
-    (within_parts (first_second_of c.args.period.now) (end_second_of c.args.period.now) r.front.now r.given.now r.back.now
-    (subst (LieWithin (first_second_of c.args.period.now) (end_second_of c.args.period.now)) c.compare-runs.ensures.new c.requires.new)).0
+    (within_parts (first_second_of c.args.basis.now.period.now) (end_second_of c.args.basis.now.period.now) r.front.now r.given.now r.back.now
+    (subst (LieWithin (first_second_of c.args.basis.now.period.now) (end_second_of c.args.basis.now.period.now)) c.compare-runs.ensures.new c.requires.new)).0
 
 pub relabel-requires-2-clause-within : goal.relabel-requires-2-clause-within
 relabel-requires-2-clause-within c =
     let r = c.compare-runs.result in
-    (within_parts (first_second_of c.args.period.now) (end_second_of c.args.period.now) r.front.now r.taken.now r.back.now
-    (subst (LieWithin (first_second_of c.args.period.now) (end_second_of c.args.period.now)) c.compare-runs.ensures.old c.requires.old)).1
+    (within_parts (first_second_of c.args.basis.now.period.now) (end_second_of c.args.basis.now.period.now) r.front.now r.taken.now r.back.now
+    (subst (LieWithin (first_second_of c.args.basis.now.period.now) (end_second_of c.args.basis.now.period.now)) c.compare-runs.ensures.old c.requires.old)).1
 
 pub relabel-requires-2-clause-rising : goal.relabel-requires-2-clause-rising
 relabel-requires-2-clause-rising c =
@@ -54,21 +54,21 @@ relabel-requires-2-clause-rising c =
 pub relabel-requires-2-clause-cut : goal.relabel-requires-2-clause-cut
 relabel-requires-2-clause-cut c =
     let r = c.compare-runs.result in
-    cut_back c.args.sheet.now.entries r.front.now r.taken.now r.back.now (subst (BeginAtCutters c.args.sheet.now.entries) c.compare-runs.ensures.old c.requires.cut)
+    cut_back c.args.basis.now.sheet.now.entries r.front.now r.taken.now r.back.now (subst (BeginAtCutters c.args.basis.now.sheet.now.entries) c.compare-runs.ensures.old c.requires.cut)
 
 pub returns-clause-posted : goal.returns-clause-posted
 returns-clause-posted c = λ old new b.
-    let was = c.args.sheet.now.entries in
+    let was = c.args.basis.now.sheet.now.entries in
     let now = changed c.args.change.now was in
-    let roll = c.args.roll.now.customers in
-    let days = days_of c.args.period.now in
-    let f = c.args.feeder in
+    let roll = c.args.basis.now.roll.now.customers in
+    let days = days_of c.args.basis.now.period.now in
+    let f = c.args.basis.now.feeder in
     let of : List Entry → List Run → Dim → ℕ → ℕ = λ entries runs. amount_of_runs entries roll days f runs in
     let r = c.compare-runs.result in
     let fronts = c.in_ok-relabel.ensures.posted old new b in
     let between = c.in_ok-replace_between.ensures.posted (together old (of was r.front.now)) (together new (of now r.front.now)) fronts in
     on_ok_weaker c.relabel-2.result
-    (λ h. balances_as (day_count c.args.period.now) c.relabel-2.new.self
+    (λ h. balances_as (day_count c.args.basis.now.period.now) c.relabel-2.new.self
     (together (together (together old (of was r.front.now)) (of was r.taken.now)) (of was r.back.now)) (together (together (together new (of now r.front.now)) (of now r.given.now)) (of now r.back.now))
     (together old (of was c.args.old.now)) (together new (of now c.args.new.now))
     (λ dim key. let parts = amount_of_parts was roll days f r.front.now r.taken.now r.back.now c.args.old.now dim key c.compare-runs.ensures.old in omega (arith, parts))
