@@ -10,7 +10,8 @@ use Rattle.ob_stream.specs.declared.watched.Watched.{Watched}
 use Rattle.ob_state.specs.State.{BookState}
 use Rattle.ob_book.specs.Acts.{ActState}
 use Rattle.ob_store.specs.Calls.{IfHeld}
-use Rattle.ob_store.specs.Keepers.{Ghosts, KeeperValue}
+use Rattle.ob_store.specs.Keepers.{Ghosts, book_of}
+use Rattle.ob_store.specs.declared.keeper.Keeper.{Keeper}
 use Rattle.ob_http_requests.specs.Message.{Message}
 use Rattle.ob_http_routes.specs.Answers.{Answer, answer_text, bookless}
 use Rattle.ob_http_routes.specs.Answering.{Answered, IsAnswerFault, Unopened, text_bytes}
@@ -36,46 +37,46 @@ unopened-err None closes fault h = (same fault h, refl)
     same f e = cc
 unopened-err (Some a) closes fault h = absurd h
 
-module _ {S : Type 0} (g : Ghosts S) where
+module _ {S T : Type 0} {g : Ghosts S} where
   -- an answer that was made stands, and less or all of it is written
-  made : (old new : KeeperValue S) (m : Message) (ends : Bool) (text : ReplyText)
-      → (old.book ≡ None → (new ≡ old) × Unopened (bookless m) ends (Ok text)) → (IsSome old.book → IsSome new.book)
-      → IfHeld g old new (λ b. Answered g new b m ends (Ok text))
-      → (x : Option ActState) → Over g old new x → (y : Option ActState) × AnswersAt x m ends (text_bytes text) y × Stands g new y
+  made : (old new : Keeper S T g) (m : Message) (ends : Bool) (text : ReplyText)
+      → (book_of old ≡ None → (new ≡ old) × Unopened (bookless m) ends (Ok text)) → (IsSome (book_of old) → IsSome (book_of new))
+      → IfHeld old new (λ b. Answered new b m ends (Ok text))
+      → (x : Option ActState) → Over old new x → (y : Option ActState) × AnswersAt x m ends (text_bytes text) y × Stands new y
   made old new m ends text unopened kept answered None none =
       let so = unopened-ok (bookless m) ends text (unopened none).1 in
-      (None, so, ap (λ k. k.book) (unopened none).0 ∙ none)
+      (None, so, ap (λ k. book_of k) (unopened none).0 ∙ none)
   made old new m ends text unopened kept answered (Some b) (disk, ties, some) =
       let so = answered disk b ties some in
       (Some so.1, (so.0, so.2, so.3), (so.4, kept some))
 
-  pub answered-whole : (had has : Option (List ℕ)) (old new : KeeperValue S) (m : Message) (ends : Bool) (text : ReplyText)
-      → (old.book ≡ None → (new ≡ old) × Unopened (bookless m) ends (Ok text)) → (IsSome old.book → IsSome new.book)
-      → IfHeld g old new (λ b. Answered g new b m ends (Ok text))
-      → Appends had has (text_bytes text) → IsAnswered g had has old new m ends
+  pub answered-whole : (had has : Option (List ℕ)) (old new : Keeper S T g) (m : Message) (ends : Bool) (text : ReplyText)
+      → (book_of old ≡ None → (new ≡ old) × Unopened (bookless m) ends (Ok text)) → (IsSome (book_of old) → IsSome (book_of new))
+      → IfHeld old new (λ b. Answered new b m ends (Ok text))
+      → Appends had has (text_bytes text) → IsAnswered had has old new m ends
   answered-whole had has old new m ends text unopened kept answered written x over =
       let so = made old new m ends text unopened kept answered x over in (text_bytes text, so.0, so.1, written, so.2)
 
-  pub answered-less : {W : Type 0} (writer : Watched W) (had has : Option (List ℕ)) (old new : KeeperValue S) (m : Message) (ends : Bool) (text : ReplyText)
-      → (old.book ≡ None → (new ≡ old) × Unopened (bookless m) ends (Ok text)) → (IsSome old.book → IsSome new.book)
-      → IfHeld g old new (λ b. Answered g new b m ends (Ok text))
-      → AppendsFront had has (text_bytes text) → IsUnanswered g writer had has old new m ends Output
+  pub answered-less : {W : Type 0} (writer : Watched W) (had has : Option (List ℕ)) (old new : Keeper S T g) (m : Message) (ends : Bool) (text : ReplyText)
+      → (book_of old ≡ None → (new ≡ old) × Unopened (bookless m) ends (Ok text)) → (IsSome (book_of old) → IsSome (book_of new))
+      → IfHeld old new (λ b. Answered new b m ends (Ok text))
+      → AppendsFront had has (text_bytes text) → IsUnanswered writer had has old new m ends Output
   answered-less writer had has old new m ends text unopened kept answered written x over =
       let so = made old new m ends text unopened kept answered x over in (text_bytes text, so.0, so.1, written, so.2)
 
   -- what a fault in place of an answer leaves
-  left-by : (old new : KeeperValue S) (m : Message) (ends : Bool) (fault : Fault)
-      → (old.book ≡ None → (new ≡ old) × Unopened (bookless m) ends (Err fault))
-      → IfHeld g old new (λ b. Answered g new b m ends (Err fault))
-      → (x : Option ActState) → Over g old new x → LeftBy g new x m ends fault
+  left-by : (old new : Keeper S T g) (m : Message) (ends : Bool) (fault : Fault)
+      → (book_of old ≡ None → (new ≡ old) × Unopened (bookless m) ends (Err fault))
+      → IfHeld old new (λ b. Answered new b m ends (Err fault))
+      → (x : Option ActState) → Over old new x → LeftBy new x m ends fault
   left-by old new m ends fault unopened answered None none =
-      let so = unopened-err (bookless m) ends fault (unopened none).1 in (so.0, so.1, ap (λ k. k.book) (unopened none).0 ∙ none)
+      let so = unopened-err (bookless m) ends fault (unopened none).1 in (so.0, so.1, ap (λ k. book_of k) (unopened none).0 ∙ none)
   left-by old new m ends fault unopened answered (Some b) (disk, ties, some) = answered disk b ties some
 
-  pub unanswered : {W : Type 0} (writer : Watched W) (had has : Option (List ℕ)) (old new : KeeperValue S) (m : Message) (ends : Bool) (fault : Fault)
-      → (old.book ≡ None → (new ≡ old) × Unopened (bookless m) ends (Err fault)) → (IsSome old.book → IsAnswerFault fault)
-      → IfHeld g old new (λ b. Answered g new b m ends (Err fault))
-      → (front : List ℕ) × IsWritten writer front unavailable_text × Appends had has front → IsUnanswered g writer had has old new m ends fault
+  pub unanswered : {W : Type 0} (writer : Watched W) (had has : Option (List ℕ)) (old new : Keeper S T g) (m : Message) (ends : Bool) (fault : Fault)
+      → (book_of old ≡ None → (new ≡ old) × Unopened (bookless m) ends (Err fault)) → (IsSome (book_of old) → IsAnswerFault fault)
+      → IfHeld old new (λ b. Answered new b m ends (Err fault))
+      → (front : List ℕ) × IsWritten writer front unavailable_text × Appends had has front → IsUnanswered writer had has old new m ends fault
   unanswered writer had has old new m ends OutOfMemory unopened faults answered (front, start, written) =
       λ x over. (front, start, written, left-by old new m ends OutOfMemory unopened answered x over)
   unanswered writer had has old new m ends Store unopened faults answered (front, start, written) =
@@ -89,52 +90,52 @@ module _ {S : Type 0} (g : Ghosts S) where
       not-output : (let f : Fault = Output in f) ≡ Reopen → ⊥
       not-output e = cc
 
-      none-so : (x : Option ActState) → Over g old new x → ⊥
+      none-so : (x : Option ActState) → Over old new x → ⊥
       none-so None none = not-output (unopened-err (bookless m) ends Output (unopened none).1).0
       none-so (Some b) (disk, ties, some) = faults some
 
   -- ---- by what was written
 
-  pub written-answered : {A : Type 0} (r : Result A Fault) (had has : Option (List ℕ)) (old new : KeeperValue S) (m : Message) (ends : Bool) (text : ReplyText)
-      → (old.book ≡ None → (new ≡ old) × Unopened (bookless m) ends (Ok text)) → (IsSome old.book → IsSome new.book)
-      → IfHeld g old new (λ b. Answered g new b m ends (Ok text))
-      → OnOk r (Appends had has (text_bytes text)) → OnOk r (IsAnswered g had has old new m ends)
+  pub written-answered : {A : Type 0} (r : Result A Fault) (had has : Option (List ℕ)) (old new : Keeper S T g) (m : Message) (ends : Bool) (text : ReplyText)
+      → (book_of old ≡ None → (new ≡ old) × Unopened (bookless m) ends (Ok text)) → (IsSome (book_of old) → IsSome (book_of new))
+      → IfHeld old new (λ b. Answered new b m ends (Ok text))
+      → OnOk r (Appends had has (text_bytes text)) → OnOk r (IsAnswered had has old new m ends)
   written-answered (Ok x) had has old new m ends text unopened kept answered written = answered-whole had has old new m ends text unopened kept answered written
   written-answered (Err f) had has old new m ends text unopened kept answered written = tt
 
-  pub written-less : {A W : Type 0} (r : Result A Fault) (writer : Watched W) (had has : Option (List ℕ)) (old new : KeeperValue S) (m : Message) (ends : Bool) (text : ReplyText)
-      → (old.book ≡ None → (new ≡ old) × Unopened (bookless m) ends (Ok text)) → (IsSome old.book → IsSome new.book)
-      → IfHeld g old new (λ b. Answered g new b m ends (Ok text))
-      → IfErr r (λ _. AppendsFront had has (text_bytes text)) → IfErr r (λ f. (f ≡ Output) × HasJustFailed writer) → IfErr r (IsUnanswered g writer had has old new m ends)
+  pub written-less : {A W : Type 0} (r : Result A Fault) (writer : Watched W) (had has : Option (List ℕ)) (old new : Keeper S T g) (m : Message) (ends : Bool) (text : ReplyText)
+      → (book_of old ≡ None → (new ≡ old) × Unopened (bookless m) ends (Ok text)) → (IsSome (book_of old) → IsSome (book_of new))
+      → IfHeld old new (λ b. Answered new b m ends (Ok text))
+      → IfErr r (λ _. AppendsFront had has (text_bytes text)) → IfErr r (λ f. (f ≡ Output) × HasJustFailed writer) → IfErr r (IsUnanswered writer had has old new m ends)
   written-less (Ok x) writer had has old new m ends text unopened kept answered written failed = tt
   written-less (Err f) writer had has old new m ends text unopened kept answered written failed =
-      subst (IsUnanswered g writer had has old new m ends) (sym failed.0) (answered-less writer had has old new m ends text unopened kept answered written)
+      subst (IsUnanswered writer had has old new m ends) (sym failed.0) (answered-less writer had has old new m ends text unopened kept answered written)
 
-  pub written-cause : {A W : Type 0} (r : Result A Fault) (writer : Watched W) (old : KeeperValue S) → IfErr r (λ f. (f ≡ Output) × HasJustFailed writer) → IfErr r (HasAnswerCause g writer old)
+  pub written-cause : {A W : Type 0} (r : Result A Fault) (writer : Watched W) (old : Keeper S T g) → IfErr r (λ f. (f ≡ Output) × HasJustFailed writer) → IfErr r (HasAnswerCause writer old)
   written-cause (Ok x) writer old failed = tt
-  written-cause (Err f) writer old failed = subst (HasAnswerCause g writer old) (sym failed.0) failed.1
+  written-cause (Err f) writer old failed = subst (HasAnswerCause writer old) (sym failed.0) failed.1
 
-  pub written-kept : {A W : Type 0} (r : Result A Fault) (writer : Watched W) (old new : KeeperValue S) → IfErr r (λ f. (f ≡ Output) × HasJustFailed writer) → IsKept g old new None → IsKept g old new (fault_of r)
+  pub written-kept : {A W : Type 0} (r : Result A Fault) (writer : Watched W) (old new : Keeper S T g) → IfErr r (λ f. (f ≡ Output) × HasJustFailed writer) → IsKept old new None → IsKept old new (fault_of r)
   written-kept (Ok x) writer old new failed kept = kept
-  written-kept (Err f) writer old new failed kept = kept-err g old new f (λ e. not-store (sym failed.0 ∙ e)) kept
+  written-kept (Err f) writer old new failed kept = kept-err old new f (λ e. not-store (sym failed.0 ∙ e)) kept
     where
       not-store : (let f : Fault = Output in f) ≡ Store → ⊥
       not-store e = cc
 
   -- why a request isn't answered
-  pub answer-cause : {W : Type 0} (writer : Watched W) (old new : KeeperValue S) (m : Message) (ends : Bool) (fault : Fault)
-      → (old.book ≡ None → (new ≡ old) × Unopened (bookless m) ends (Err fault)) → (IsSome old.book → IsAnswerFault fault) → HasAnswerCause g writer old fault
-  answer-cause writer old new m ends fault unopened faults = by-book old.book refl
+  pub answer-cause : {W : Type 0} (writer : Watched W) (old new : Keeper S T g) (m : Message) (ends : Bool) (fault : Fault)
+      → (book_of old ≡ None → (new ≡ old) × Unopened (bookless m) ends (Err fault)) → (IsSome (book_of old) → IsAnswerFault fault) → HasAnswerCause writer old fault
+  answer-cause writer old new m ends fault unopened faults = by-book (book_of old) refl
     where
-      of-book : (f : Fault) → IsAnswerFault f → HasAnswerCause g writer old f
+      of-book : (f : Fault) → IsAnswerFault f → HasAnswerCause writer old f
       of-book OutOfMemory h = tt
       of-book Store h = tt
       of-book Reopen h = absurd h
       of-book Input h = absurd h
       of-book Output h = absurd h
 
-      by-book : (o : Option BookState) → old.book ≡ o → HasAnswerCause g writer old fault
-      by-book None none = subst (HasAnswerCause g writer old) (sym (unopened-err (bookless m) ends fault (unopened none).1).0) none
+      by-book : (o : Option BookState) → book_of old ≡ o → HasAnswerCause writer old fault
+      by-book None none = subst (HasAnswerCause writer old) (sym (unopened-err (bookless m) ends fault (unopened none).1).0) none
       by-book (Some book) is = of-book fault (faults (subst (λ o. IsSome o) (sym is) refl))
 
 -- a text was written whole, or the writer failed before its end

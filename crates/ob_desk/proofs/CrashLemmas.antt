@@ -8,8 +8,9 @@ use Rattle.ob_base.specs.declared.stop.Fault.TheVariants.{OutOfMemory, Store, Re
 use Rattle.ob_stream.specs.declared.watched.Watched.{Watched}
 use Rattle.ob_book.specs.Acts.{ActState, Referenced, act, acts}
 use Rattle.ob_store.specs.Acting.{under}
-use Rattle.ob_store.specs.Keepers.{Ghosts, KeeperValue, StoresEither, Ties}
+use Rattle.ob_store.specs.Keepers.{Ghosts, StoresEither, Ties}
 use Rattle.ob_store.proofs.KeeperLaws.{either_left, stored_left}
+use Rattle.ob_store.specs.declared.keeper.Keeper.{Keeper}
 use Rattle.ob_csv.specs.Rows.{Fields, rows_of}
 use Rattle.ob_import.specs.Imports.{Import, ImportsBody, after_header}
 use Rattle.ob_http_requests.specs.Message.{Message, path_of}
@@ -65,17 +66,17 @@ replies-act allowed (Some b) y (m ∷ ms) text (reply, more, Some c, answers, is
 all-of : (b c : ActState) (commands : List Referenced) → c ≡ acts b commands → c ≡ acts b (take (length commands) commands)
 all-of b c commands is = is ∙ ap (acts b) (sym (take_all (length commands) commands (omega arith)))
 
-module _ {S : Type 0} (g : Ghosts S) where
-  tied : (new : KeeperValue S) (b c : ActState) (commands : List Referenced) → Ties g new c → c ≡ acts b commands → Outlasts g new (Some b)
-  tied new b c commands ties is = (commands, stored_left g new (λ (count : ℕ). acts b (take count commands)) c (length commands) ties.kept (all-of b c commands is))
+module _ {S T : Type 0} {g : Ghosts S} where
+  tied : (new : Keeper S T g) (b c : ActState) (commands : List Referenced) → Ties new c → c ≡ acts b commands → Outlasts new (Some b)
+  tied new b c commands ties is = (commands, stored_left new (λ (count : ℕ). acts b (take count commands)) c (length commands) ties.kept (all-of b c commands is))
 
-  stands-outlasts : (new : KeeperValue S) (x : Option ActState) → Stands g new x → Outlasts g new x
+  stands-outlasts : (new : Keeper S T g) (x : Option ActState) → Stands new x → Outlasts new x
   stands-outlasts new None h = tt
   stands-outlasts new (Some b) (ties, some) = tied new b b [] ties refl
 
   -- memory was refused in place of an answer: some commands have acted
-  short-acts : (new : KeeperValue S) (b : ActState) (method : Method) (route : Option Route) (body : List ℕ) → StandsShort g new b method route body
-      → (commands : List Referenced) × Ties g new (acts b commands)
+  short-acts : (new : Keeper S T g) (b : ActState) (method : Method) (route : Option Route) (body : List ℕ) → StandsShort new b method route body
+      → (commands : List Referenced) × Ties new (acts b commands)
   short-acts new b method None body h = absurd h
   short-acts new b methods.Get (Some route) body ties = ([], ties)
   short-acts new b methods.Post (Some routes.Commands) body h = elim h [
@@ -83,74 +84,74 @@ module _ {S : Type 0} (g : Ghosts S) where
     | inr (x, says, ties) ↦ (x ∷ [], ties)
   ]
   short-acts new b methods.Post (Some routes.Import) body h = elim h [
-    | inl (added, again, (c, later, begins, (ties, some))) ↦ (begins.2.commands, subst (Ties g new) begins.2.state ties)
-    | inr (i, imports, ties) ↦ let so = imports-act b (after_header (rows_of body)) i imports in (so.0, subst (Ties g new) so.1 ties)
+    | inl (added, again, (c, later, begins, (ties, some))) ↦ (begins.2.commands, subst (Ties new) begins.2.state ties)
+    | inr (i, imports, ties) ↦ let so = imports-act b (after_header (rows_of body)) i imports in (so.0, subst (Ties new) so.1 ties)
   ]
   short-acts new b methods.Post (Some routes.Plan) body ties = ([], ties)
   short-acts new b methods.Post (Some (routes.Command number)) body h = absurd h
   short-acts new b methods.Post (Some (routes.View view)) body h = absurd h
 
-  short-outlasts : (new : KeeperValue S) (b : ActState) (method : Method) (route : Option Route) (body : List ℕ) → StandsShort g new b method route body → Outlasts g new (Some b)
+  short-outlasts : (new : Keeper S T g) (b : ActState) (method : Method) (route : Option Route) (body : List ℕ) → StandsShort new b method route body → Outlasts new (Some b)
   short-outlasts new b method route body h = let so = short-acts new b method route body h in tied new b (acts b so.0) so.0 so.1 refl
 
   -- all of the commands, or one more
-  one-more : (new : KeeperValue S) (b c : ActState) (commands : List Referenced) (x : Referenced) → StoresEither g new c (act c x) → c ≡ acts b commands → Outlasts g new (Some b)
+  one-more : (new : Keeper S T g) (b c : ActState) (commands : List Referenced) (x : Referenced) → StoresEither new c (act c x) → c ≡ acts b commands → Outlasts new (Some b)
   one-more new b c commands x keeps is = (
     commands ++ x ∷ [],
-    either_left g new (λ (count : ℕ). acts b (take count (commands ++ x ∷ []))) c (act c x) (length commands) (length (commands ++ x ∷ [])) keeps
+    either_left new (λ (count : ℕ). acts b (take count (commands ++ x ∷ []))) c (act c x) (length commands) (length (commands ++ x ∷ [])) keeps
         (is ∙ ap (acts b) (sym (take_at commands (x ∷ []) (length commands) refl)))
         (all-of b (act c x) (commands ++ x ∷ []) (ap (λ d. act d x) is ∙ sym (fold-append act b commands (x ∷ [])))),
   )
 
   -- after a fault of the store: the book after some commands, and perhaps one more
-  lost-left : (new : KeeperValue S) (b : ActState) (method : Method) (route : Option Route) (body : List ℕ) → StandsLost g new b method route body
-      → (commands : List Referenced) × KeepsInWork g new (acts b commands)
+  lost-left : (new : Keeper S T g) (b : ActState) (method : Method) (route : Option Route) (body : List ℕ) → StandsLost new b method route body
+      → (commands : List Referenced) × KeepsInWork new (acts b commands)
   lost-left new b method None body h = absurd h
   lost-left new b methods.Get (Some route) body (keeps, none) = ([], inl keeps)
   lost-left new b methods.Post (Some routes.Commands) body (x, says, keeps, none) = ([], inr (x, keeps))
   lost-left new b methods.Post (Some routes.Import) body (added, again, (c, later, a, begins, next, keeps, none)) =
-      (begins.2.commands, subst (KeepsInWork g new) begins.2.state (inr (a, keeps)))
+      (begins.2.commands, subst (KeepsInWork new) begins.2.state (inr (a, keeps)))
   lost-left new b methods.Post (Some routes.Plan) body h = absurd h
   lost-left new b methods.Post (Some (routes.Command number)) body h = absurd h
   lost-left new b methods.Post (Some (routes.View view)) body h = absurd h
 
-  in-work-outlasts : (new : KeeperValue S) (b : ActState) (commands : List Referenced) → KeepsInWork g new (acts b commands) → Outlasts g new (Some b)
+  in-work-outlasts : (new : Keeper S T g) (b : ActState) (commands : List Referenced) → KeepsInWork new (acts b commands) → Outlasts new (Some b)
   in-work-outlasts new b commands h = elim h [
-    | inl keeps ↦ (commands, stored_left g new (λ (count : ℕ). acts b (take count commands)) (acts b commands) (length commands) keeps (all-of b (acts b commands) commands refl))
+    | inl keeps ↦ (commands, stored_left new (λ (count : ℕ). acts b (take count commands)) (acts b commands) (length commands) keeps (all-of b (acts b commands) commands refl))
     | inr (x, keeps) ↦ one-more new b (acts b commands) commands x keeps refl
   ]
 
-  lost-outlasts : (new : KeeperValue S) (b : ActState) (method : Method) (route : Option Route) (body : List ℕ) → StandsLost g new b method route body → Outlasts g new (Some b)
+  lost-outlasts : (new : Keeper S T g) (b : ActState) (method : Method) (route : Option Route) (body : List ℕ) → StandsLost new b method route body → Outlasts new (Some b)
   lost-outlasts new b method route body h = let so = lost-left new b method route body h in in-work-outlasts new b so.0 so.1
 
-  route-outlasts : (new : KeeperValue S) (b : ActState) (method : Method) (route : Option Route) (body : List ℕ) (closes : Bool) (fault : Fault)
-      → RouteAnswered g new b method route body closes (Err fault) → Outlasts g new (Some b)
+  route-outlasts : (new : Keeper S T g) (b : ActState) (method : Method) (route : Option Route) (body : List ℕ) (closes : Bool) (fault : Fault)
+      → RouteAnswered new b method route body closes (Err fault) → Outlasts new (Some b)
   route-outlasts new b method route body closes OutOfMemory h = short-outlasts new b method route body h
   route-outlasts new b method route body closes Store h = lost-outlasts new b method route body h
   route-outlasts new b method route body closes Reopen h = absurd h
   route-outlasts new b method route body closes Input h = absurd h
   route-outlasts new b method route body closes Output h = absurd h
 
-  answer-outlasts : {W : Type 0} (writer : Watched W) (allowed : ℕ) (rest : Option (List ℕ)) (part : List ℕ) (new : KeeperValue S) (x : Option ActState) (fault : Fault)
-      → BreaksAnswer g writer allowed rest part new x fault → Outlasts g new x
+  answer-outlasts : {W : Type 0} (writer : Watched W) (allowed : ℕ) (rest : Option (List ℕ)) (part : List ℕ) (new : Keeper S T g) (x : Option ActState) (fault : Fault)
+      → BreaksAnswer writer allowed rest part new x fault → Outlasts new x
   answer-outlasts writer allowed rest part new None fault h = tt
   answer-outlasts writer allowed rest part new (Some b) fault h = route-outlasts new b h.message.method (route_of (path_of h.message.target)) h.message.body (ends allowed h.message) fault h.leaves
 
   -- a reply could not be written whole: its commands have acted
-  reply-acts : (allowed : ℕ) (rest : Option (List ℕ)) (part : List ℕ) (new : KeeperValue S) (b : ActState) → BreaksReply g allowed rest part new (Some b)
-      → (commands : List Referenced) × Ties g new (acts b commands)
+  reply-acts : (allowed : ℕ) (rest : Option (List ℕ)) (part : List ℕ) (new : Keeper S T g) (b : ActState) → BreaksReply allowed rest part new (Some b)
+      → (commands : List Referenced) × Ties new (acts b commands)
   reply-acts allowed rest part new b h = by-next h.next h.answers h.stands
     where
-      by-next : (y : Option ActState) → AnswersAt (Some b) h.message (ends allowed h.message) h.reply y → Stands g new y → (commands : List Referenced) × Ties g new (acts b commands)
+      by-next : (y : Option ActState) → AnswersAt (Some b) h.message (ends allowed h.message) h.reply y → Stands new y → (commands : List Referenced) × Ties new (acts b commands)
       by-next None answers stands = absurd answers
-      by-next (Some c) answers (ties, some) = let so = at-acts b c h.message (ends allowed h.message) h.reply answers in (so.0, subst (Ties g new) so.1 ties)
+      by-next (Some c) answers (ties, some) = let so = at-acts b c h.message (ends allowed h.message) h.reply answers in (so.0, subst (Ties new) so.1 ties)
 
-  reply-outlasts : (allowed : ℕ) (rest : Option (List ℕ)) (part : List ℕ) (new : KeeperValue S) (x : Option ActState) → BreaksReply g allowed rest part new x → Outlasts g new x
+  reply-outlasts : (allowed : ℕ) (rest : Option (List ℕ)) (part : List ℕ) (new : Keeper S T g) (x : Option ActState) → BreaksReply allowed rest part new x → Outlasts new x
   reply-outlasts allowed rest part new None h = tt
   reply-outlasts allowed rest part new (Some b) h = let so = reply-acts allowed rest part new b h in tied new b (acts b so.0) so.0 so.1 refl
 
-  pub breaks-outlast : {R W : Type 0} (reader : Watched R) (writer : Watched W) (allowed : ℕ) (rest left : Option (List ℕ)) (part : List ℕ) (new : KeeperValue S) (x : Option ActState) (fault : Fault)
-      → Breaks g reader writer allowed rest left part new x fault → Outlasts g new x
+  pub breaks-outlast : {R W : Type 0} (reader : Watched R) (writer : Watched W) (allowed : ℕ) (rest left : Option (List ℕ)) (part : List ℕ) (new : Keeper S T g) (x : Option ActState) (fault : Fault)
+      → Breaks reader writer allowed rest left part new x fault → Outlasts new x
   breaks-outlast reader writer allowed rest left part new x OutOfMemory h = elim h [
     | inl reading ↦ stands-outlasts new x reading.1
     | inr answer ↦ answer-outlasts writer allowed rest part new x OutOfMemory answer
@@ -168,16 +169,16 @@ module _ {S : Type 0} (g : Ghosts S) where
 
   -- ---- what streams leave of a book, one after the other
 
-  answer-left : (new : KeeperValue S) (b : ActState) (method : Method) (route : Option Route) (body : List ℕ) (closes : Bool) (fault : Fault)
-      → RouteAnswered g new b method route body closes (Err fault) → IsLeft g new b (Some fault)
+  answer-left : (new : Keeper S T g) (b : ActState) (method : Method) (route : Option Route) (body : List ℕ) (closes : Bool) (fault : Fault)
+      → RouteAnswered new b method route body closes (Err fault) → IsLeft new b (Some fault)
   answer-left new b method route body closes OutOfMemory h = short-acts new b method route body h
   answer-left new b method route body closes Store h = lost-left new b method route body h
   answer-left new b method route body closes Reopen h = absurd h
   answer-left new b method route body closes Input h = absurd h
   answer-left new b method route body closes Output h = absurd h
 
-  breaks-left : {R W : Type 0} (reader : Watched R) (writer : Watched W) (allowed : ℕ) (rest left : Option (List ℕ)) (part : List ℕ) (new : KeeperValue S) (b : ActState) (fault : Fault)
-      → Breaks g reader writer allowed rest left part new (Some b) fault → IsLeft g new b (Some fault)
+  breaks-left : {R W : Type 0} (reader : Watched R) (writer : Watched W) (allowed : ℕ) (rest left : Option (List ℕ)) (part : List ℕ) (new : Keeper S T g) (b : ActState) (fault : Fault)
+      → Breaks reader writer allowed rest left part new (Some b) fault → IsLeft new b (Some fault)
   breaks-left reader writer allowed rest left part new b OutOfMemory h = elim h [
     | inl reading ↦ ([], reading.1.0)
     | inr answer ↦ answer-left new b answer.message.method (route_of (path_of answer.message.target)) answer.message.body (ends allowed answer.message) OutOfMemory answer.leaves
@@ -193,21 +194,21 @@ module _ {S : Type 0} (g : Ghosts S) where
     ]
   ]
 
-  pub left-then : (new : KeeperValue S) (b : ActState) (done : List Referenced) (fault : Option Fault) → IsLeft g new (acts b done) fault → IsLeft g new b fault
-  left-then new b done None (more, ties) = (done ++ more, subst (Ties g new) (sym (fold-append act b done more)) ties)
-  left-then new b done (Some OutOfMemory) (more, ties) = (done ++ more, subst (Ties g new) (sym (fold-append act b done more)) ties)
-  left-then new b done (Some Store) (more, keeps) = (done ++ more, subst (KeepsInWork g new) (sym (fold-append act b done more)) keeps)
-  left-then new b done (Some Reopen) (more, ties) = (done ++ more, subst (Ties g new) (sym (fold-append act b done more)) ties)
-  left-then new b done (Some Input) (more, ties) = (done ++ more, subst (Ties g new) (sym (fold-append act b done more)) ties)
-  left-then new b done (Some Output) (more, ties) = (done ++ more, subst (Ties g new) (sym (fold-append act b done more)) ties)
+  pub left-then : (new : Keeper S T g) (b : ActState) (done : List Referenced) (fault : Option Fault) → IsLeft new (acts b done) fault → IsLeft new b fault
+  left-then new b done None (more, ties) = (done ++ more, subst (Ties new) (sym (fold-append act b done more)) ties)
+  left-then new b done (Some OutOfMemory) (more, ties) = (done ++ more, subst (Ties new) (sym (fold-append act b done more)) ties)
+  left-then new b done (Some Store) (more, keeps) = (done ++ more, subst (KeepsInWork new) (sym (fold-append act b done more)) keeps)
+  left-then new b done (Some Reopen) (more, ties) = (done ++ more, subst (Ties new) (sym (fold-append act b done more)) ties)
+  left-then new b done (Some Input) (more, ties) = (done ++ more, subst (Ties new) (sym (fold-append act b done more)) ties)
+  left-then new b done (Some Output) (more, ties) = (done ++ more, subst (Ties new) (sym (fold-append act b done more)) ties)
 
-  pub serves-left : (stream had has : Option (List ℕ)) (old new : KeeperValue S) (replies : ℕ) (b : ActState) → Serves g stream had has old new replies → Over g old new (Some b) → IsLeft g new b None
+  pub serves-left : (stream had has : Option (List ℕ)) (old new : Keeper S T g) (replies : ℕ) (b : ActState) → Serves stream had has old new replies → Over old new (Some b) → IsLeft new b None
   serves-left stream had has old new replies b run over =
-      let so = run.answered (Some b) over in (so.5.0, (subst (Stands g new) so.5.1 so.4).0)
+      let so = run.answered (Some b) over in (so.5.0, (subst (Stands new) so.5.1 so.4).0)
 
-  pub fails-left : {R W : Type 0} (stream left had has : Option (List ℕ)) (reader : Watched R) (writer : Watched W) (old new : KeeperValue S) (fault : Fault) (b : ActState)
-      → Fails g stream left had has reader writer old new fault → Over g old new (Some b) → IsLeft g new b (Some fault)
+  pub fails-left : {R W : Type 0} (stream left had has : Option (List ℕ)) (reader : Watched R) (writer : Watched W) (old new : Keeper S T g) (fault : Fault) (b : ActState)
+      → Fails stream left had has reader writer old new fault → Over old new (Some b) → IsLeft new b (Some fault)
   fails-left stream left had has reader writer old new fault b run over =
       let so = run.answered (Some b) over in
       left-then new b so.6.0 (Some fault)
-      (breaks-left reader writer (1000 - length run.requests) run.rest left so.1 new (acts b so.6.0) fault (subst (λ y. Breaks g reader writer (1000 - length run.requests) run.rest left so.1 new y fault) so.6.1 so.5))
+      (breaks-left reader writer (1000 - length run.requests) run.rest left so.1 new (acts b so.6.0) fault (subst (λ y. Breaks reader writer (1000 - length run.requests) run.rest left so.1 new y fault) so.6.1 so.5))

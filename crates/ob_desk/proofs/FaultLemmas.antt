@@ -8,8 +8,9 @@ use Rattle.ob_stream.specs.declared.watched.Watched.{Watched}
 use Rattle.std.proofs.Common.{ℕ}
 use Rattle.ob_book.specs.Acts.{ActState, Referenced, acts}
 use Rattle.ob_store.specs.Calls.{IfHeld, TellsFaults}
-use Rattle.ob_store.specs.Keepers.{Ghosts, KeeperValue, Ties}
+use Rattle.ob_store.specs.Keepers.{Ghosts, Ties, book_of}
 use Rattle.ob_store.proofs.Faults.{tells_as, tells_nothing, tells_then}
+use Rattle.ob_store.specs.declared.keeper.Keeper.{Keeper}
 use Rattle.ob_http_requests.specs.Reading.{Stops}
 use Rattle.ob_desk.specs.Crashes.{IsLeft}
 use Rattle.ob_desk.specs.Listening.{desk_end}
@@ -52,26 +53,26 @@ pub unread-no-store : {A R W : Type 0} (had left wrote writes : Option (List ℕ
 unread-no-store {A = A} had left wrote writes reader writer fault stops e =
     err-no-store {A = A} fault (λ is. subst (λ f. Stops had left wrote writes reader writer f) is stops) e
 
-module _ {S : Type 0} (g : Ghosts S) where
+module _ {S T : Type 0} {g : Ghosts S} where
   -- ---- one request after the other
-  pub run-tied : (stream now had has : Option (List ℕ)) (old at : KeeperValue S) (allowed : ℕ) → SoFar g stream now had has old at allowed
-      → IfHeld g old at (λ b. (done : List Referenced) × Ties g at (acts b done) × IsSome at.book)
+  pub run-tied : (stream now had has : Option (List ℕ)) (old at : Keeper S T g) (allowed : ℕ) → SoFar stream now had has old at allowed
+      → IfHeld old at (λ b. (done : List Referenced) × Ties at (acts b done) × IsSome (book_of at))
   run-tied stream now had has old at allowed run clean b ties some =
       let so = run.answered (Some b) (clean, ties, some) in
       let did = replies-act 1000 (Some b) so.1 run.requests so.0 so.2 in
-      let stood = subst (Stands g at) did.1 so.4 in
+      let stood = subst (Stands at) did.1 so.4 in
       (did.0, stood.0, stood.1)
 
-  pub run-tells : (stream now had has : Option (List ℕ)) (old at new : KeeperValue S) (allowed : ℕ) (G F : Type 0) → (F → G) → SoFar g stream now had has old at allowed
-      → TellsFaults g old at ⊥ → TellsFaults g at new G → TellsFaults g old new F
+  pub run-tells : (stream now had has : Option (List ℕ)) (old at new : Keeper S T g) (allowed : ℕ) (G F : Type 0) → (F → G) → SoFar stream now had has old at allowed
+      → TellsFaults old at ⊥ → TellsFaults at new G → TellsFaults old new F
   run-tells stream now had has old at new allowed G F reads run first one =
-      tells_as g old new G F reads (tells_then g old at new ⊥ G first (run-tied stream now had has old at allowed run) one)
+      tells_as old new G F reads (tells_then old at new ⊥ G first (run-tied stream now had has old at allowed run) one)
 
   -- ---- one stream after the other
-  pub desk-tells : (old at new : KeeperValue S) (G F : Type 0) → (F → G) → IsKept g old at None → IfHeld g old at (λ b. IsLeft g at b None)
-      → TellsFaults g old at ⊥ → TellsFaults g at new G → TellsFaults g old new F
+  pub desk-tells : (old at new : Keeper S T g) (G F : Type 0) → (F → G) → IsKept old at None → IfHeld old at (λ b. IsLeft at b None)
+      → TellsFaults old at ⊥ → TellsFaults at new G → TellsFaults old new F
   desk-tells old at new G F reads kept left first one =
-      tells_as g old new G F reads (tells_then g old at new ⊥ G first (λ clean b ties some. let so = left clean b ties some in (so.0, so.1, still-some g old at kept some)) one)
+      tells_as old new G F reads (tells_then old at new ⊥ G first (λ clean b ties some. let so = left clean b ties some in (so.0, so.1, still-some old at kept some)) one)
 
 -- the fault of a stream that ended the desk by one of the store
 pub ended-by-store : {A : Type 0} (fault : Fault) (end : Unserved) → desk_end fault ≡ Some end → ◌≡◌ {A = Result ⊤ Unserved} (Err end) (Err unserved.Store)

@@ -7,7 +7,8 @@ use Rattle.ob_stream.specs.declared.watched.Watched.{Watched}
 use Rattle.std.proofs.Common.{ℕ}
 use Rattle.ob_book.specs.Acts.{ActState}
 use Rattle.ob_store.specs.Calls.{IfHeld}
-use Rattle.ob_store.specs.Keepers.{Ghosts, KeeperValue}
+use Rattle.ob_store.specs.Keepers.{Ghosts, book_of}
+use Rattle.ob_store.specs.declared.keeper.Keeper.{Keeper}
 use Rattle.ob_desk.specs.Crashes.{IsLeft}
 use Rattle.ob_desk.specs.Serving.{Fails, Serves}
 use Rattle.ob_desk.specs.Standing.{IsKept, Over, fault_of}
@@ -39,13 +40,13 @@ end-is Output end e = absurd (none-is-some e)
 store-is-not-reopen : (let r : Result ⊤ Unserved = Err unserved.Store in r) ≡ Err unserved.Reopen → ⊥
 store-is-not-reopen e = cc
 
-module _ {S : Type 0} (g : Ghosts S) where
-  pub result-left : {R W : Type 0} (r : Result Served Fault) (stream left had has : Option (List ℕ)) (reader : Watched R) (writer : Watched W) (old new : KeeperValue S) (b : ActState)
-      → IfOk r (λ served. Serves g stream had has old new served.requests) → IfErr r (Fails g stream left had has reader writer old new) → Over g old new (Some b) → IsLeft g new b (fault_of r)
-  result-left (Ok served) stream left had has reader writer old new b serves fails over = serves-left g stream had has old new served.requests b serves over
-  result-left (Err fault) stream left had has reader writer old new b serves fails over = fails-left g stream left had has reader writer old new fault b fails over
+module _ {S T : Type 0} {g : Ghosts S} where
+  pub result-left : {R W : Type 0} (r : Result Served Fault) (stream left had has : Option (List ℕ)) (reader : Watched R) (writer : Watched W) (old new : Keeper S T g) (b : ActState)
+      → IfOk r (λ served. Serves stream had has old new served.requests) → IfErr r (Fails stream left had has reader writer old new) → Over old new (Some b) → IsLeft new b (fault_of r)
+  result-left (Ok served) stream left had has reader writer old new b serves fails over = serves-left stream had has old new served.requests b serves over
+  result-left (Err fault) stream left had has reader writer old new b serves fails over = fails-left stream left had has reader writer old new fault b fails over
 
-  kept-none-of : (old new : KeeperValue S) (fault : Fault) → (Some fault ≡ Some Store → ⊥) → IsKept g old new (Some fault) → IsKept g old new None
+  kept-none-of : (old new : Keeper S T g) (fault : Fault) → (Some fault ≡ Some Store → ⊥) → IsKept old new (Some fault) → IsKept old new None
   kept-none-of old new fault other kept = record {
     clean = kept.clean;
     unopened = kept.unopened;
@@ -53,14 +54,14 @@ module _ {S : Type 0} (g : Ghosts S) where
   }
 
   -- the book goes on after a fault that doesn't end the desk
-  pub kept-on : (old new : KeeperValue S) (fault : Fault) → desk_end fault ≡ None → IsKept g old new (Some fault) → IsKept g old new None
+  pub kept-on : (old new : Keeper S T g) (fault : Fault) → desk_end fault ≡ None → IsKept old new (Some fault) → IsKept old new None
   kept-on old new OutOfMemory on kept = kept-none-of old new OutOfMemory (λ e. cc) kept
   kept-on old new Store on kept = absurd (some-is-none on)
   kept-on old new Reopen on kept = absurd (some-is-none on)
   kept-on old new Input on kept = kept-none-of old new Input (λ e. cc) kept
   kept-on old new Output on kept = kept-none-of old new Output (λ e. cc) kept
 
-  pub left-on : (new : KeeperValue S) (b : ActState) (fault : Fault) → desk_end fault ≡ None → IsLeft g new b (Some fault) → IsLeft g new b None
+  pub left-on : (new : Keeper S T g) (b : ActState) (fault : Fault) → desk_end fault ≡ None → IsLeft new b (Some fault) → IsLeft new b None
   left-on new b OutOfMemory on left = left
   left-on new b Store on left = absurd (some-is-none on)
   left-on new b Reopen on left = absurd (some-is-none on)
@@ -68,27 +69,27 @@ module _ {S : Type 0} (g : Ghosts S) where
   left-on new b Output on left = left
 
   -- one stream more
-  pub left-more : (old at new : KeeperValue S) (fault : Option Fault) → IsKept g old at None → IsKept g at new fault
-      → IfHeld g old at (λ b. IsLeft g at b None)
-      → IfHeld g at new (λ b. IsLeft g new b fault)
-      → IfHeld g old new (λ b. IsLeft g new b fault)
+  pub left-more : (old at new : Keeper S T g) (fault : Option Fault) → IsKept old at None → IsKept at new fault
+      → IfHeld old at (λ b. IsLeft at b None)
+      → IfHeld at new (λ b. IsLeft new b fault)
+      → IfHeld old new (λ b. IsLeft new b fault)
   left-more old at new fault kept more so-far one disk b ties some =
       let before = so-far (more.clean disk) b ties some in
-      left-then g new b before.0 fault (one disk _ before.1 (still-some g old at kept some))
+      left-then new b before.0 fault (one disk _ before.1 (still-some old at kept some))
 
   -- what a desk's end says of its keeper
-  pub dropped-by : (old new : KeeperValue S) (r : Result ⊤ Unserved) → IsKept g old new (last_fault r) → IsSome old.book → (new.book ≡ None) ↔ (r ≡ Err unserved.Store)
+  pub dropped-by : (old new : Keeper S T g) (r : Result ⊤ Unserved) → IsKept old new (last_fault r) → IsSome (book_of old) → (book_of new ≡ None) ↔ (r ≡ Err unserved.Store)
   dropped-by old new (Ok done) kept some = ((λ none. absurd (none-is-some ((kept.dropped some).0 none))), λ e. cc)
   dropped-by old new (Err unserved.Listener) kept some = ((λ none. absurd (none-is-some ((kept.dropped some).0 none))), λ e. cc)
   dropped-by old new (Err unserved.Store) kept some = ((λ none. refl), λ e. (kept.dropped some).1 refl)
   dropped-by old new (Err unserved.Reopen) kept some = ((λ none. let same = (kept.dropped some).0 none in cc), λ e. cc)
 
-  abbrev pub IsLeftSoFar : KeeperValue S → KeeperValue S → Option Fault → Type 0
-  IsLeftSoFar old new fault = IfHeld g old new (λ b. IsLeft g new b fault)
+  abbrev pub IsLeftSoFar : Keeper S T g → Keeper S T g → Option Fault → Type 0
+  IsLeftSoFar old new fault = IfHeld old new (λ b. IsLeft new b fault)
 
   -- one stream, from the clauses of its call
-  pub streamed : (old new : KeeperValue S) (fault : Fault) → IsKept g old new (Some fault) → ((let r : Result Served Fault = Err fault in r) ≡ Err Reopen → old.book ≡ None) → IsLeftSoFar old new (Some fault)
-      → Streamed g old new (Some fault)
+  pub streamed : (old new : Keeper S T g) (fault : Fault) → IsKept old new (Some fault) → ((let r : Result Served Fault = Err fault in r) ≡ Err Reopen → book_of old ≡ None) → IsLeftSoFar old new (Some fault)
+      → Streamed old new (Some fault)
   streamed old new fault kept reopen left = record { kept = kept; reopen = λ e. reopen (back fault e); left = left }
     where
       back : (f : Fault) → Some f ≡ Some Reopen → (let r : Result Served Fault = Err f in r) ≡ Err Reopen
@@ -97,11 +98,11 @@ module _ {S : Type 0} (g : Ghosts S) where
           same : (f : Fault) → Some f ≡ Some Reopen → f ≡ Reopen
           same f e = cc
 
-  pub streamed-on : (old new : KeeperValue S) → IsKept g old new None → IsLeftSoFar old new None → Streamed g old new None
+  pub streamed-on : (old new : Keeper S T g) → IsKept old new None → IsLeftSoFar old new None → Streamed old new None
   streamed-on old new kept left = record { kept = kept; reopen = λ e. absurd (none-is-some e); left = left }
 
-  leaves-by : (old new : KeeperValue S) (r : Result ⊤ Unserved) → IsKept g old new (last_fault r) → (r ≡ Err unserved.Reopen → old.book ≡ None)
-      → IsLeftSoFar old new (last_fault r) → LeavesKeeper g old new r
+  leaves-by : (old new : Keeper S T g) (r : Result ⊤ Unserved) → IsKept old new (last_fault r) → (r ≡ Err unserved.Reopen → book_of old ≡ None)
+      → IsLeftSoFar old new (last_fault r) → LeavesKeeper old new r
   leaves-by old new r kept reopen left = record {
     clean = kept.clean;
     unopened = kept.unopened;
@@ -111,52 +112,52 @@ module _ {S : Type 0} (g : Ghosts S) where
   }
 
   -- no stream ended the desk
-  pub leaves-on : (old new : KeeperValue S) (r : Result ⊤ Unserved) → last_fault r ≡ None → IsKept g old new None → IsLeftSoFar old new None
-      → LeavesKeeper g old new r
+  pub leaves-on : (old new : Keeper S T g) (r : Result ⊤ Unserved) → last_fault r ≡ None → IsKept old new None → IsLeftSoFar old new None
+      → LeavesKeeper old new r
   leaves-on old new (Ok done) on kept left = leaves-by old new (Ok done) kept (λ e. cc) left
   leaves-on old new (Err unserved.Listener) on kept left = leaves-by old new (Err unserved.Listener) kept (λ e. cc) left
   leaves-on old new (Err unserved.Store) on kept left = absurd (some-is-none on)
   leaves-on old new (Err unserved.Reopen) on kept left = absurd (some-is-none on)
 
   -- the store failed in the last stream
-  leaves-lost : (old at new : KeeperValue S) → IsKept g old at None → IsLeftSoFar old at None → Streamed g at new (Some Store) → LeavesKeeper g old new (Err unserved.Store)
+  leaves-lost : (old at new : Keeper S T g) → IsKept old at None → IsLeftSoFar old at None → Streamed at new (Some Store) → LeavesKeeper old new (Err unserved.Store)
   leaves-lost old at new kept left one =
-      leaves-by old new (Err unserved.Store) (kept-then g old at new (Some Store) kept one.kept) (λ e. absurd (store-is-not-reopen e))
+      leaves-by old new (Err unserved.Store) (kept-then old at new (Some Store) kept one.kept) (λ e. absurd (store-is-not-reopen e))
       (left-more old at new (Some Store) kept one.kept left one.left)
 
   -- or there was no book
-  leaves-bookless : (old at new : KeeperValue S) → IsKept g old at None → IsLeftSoFar old at None → Streamed g at new (Some Reopen) → LeavesKeeper g old new (Err unserved.Reopen)
+  leaves-bookless : (old at new : Keeper S T g) → IsKept old at None → IsLeftSoFar old at None → Streamed at new (Some Reopen) → LeavesKeeper old new (Err unserved.Reopen)
   leaves-bookless old at new kept left one =
-      leaves-by old new (Err unserved.Reopen) (kept-then g old at new (Some Reopen) kept one.kept) (λ e. none-before g old at kept (one.reopen refl))
+      leaves-by old new (Err unserved.Reopen) (kept-then old at new (Some Reopen) kept one.kept) (λ e. none-before old at kept (one.reopen refl))
       (left-more old at new (Some Reopen) kept one.kept left one.left)
 
   -- the last stream ended the desk
-  pub leaves-ended : (old at new : KeeperValue S) (fault : Fault) (end : Unserved) → desk_end fault ≡ Some end → IsKept g old at None → IsLeftSoFar old at None
-      → Streamed g at new (Some fault) → LeavesKeeper g old new (Err end)
+  pub leaves-ended : (old at new : Keeper S T g) (fault : Fault) (end : Unserved) → desk_end fault ≡ Some end → IsKept old at None → IsLeftSoFar old at None
+      → Streamed at new (Some fault) → LeavesKeeper old new (Err end)
   leaves-ended old at new fault end e kept left one = elim (end-is fault end e) [
-    | inl lost ↦ subst (λ x. LeavesKeeper g old new (Err x)) (sym lost.1) (leaves-lost old at new kept left (subst (λ f. Streamed g at new (Some f)) lost.0 one))
-    | inr bookless ↦ subst (λ x. LeavesKeeper g old new (Err x)) (sym bookless.1) (leaves-bookless old at new kept left (subst (λ f. Streamed g at new (Some f)) bookless.0 one))
+    | inl lost ↦ subst (λ x. LeavesKeeper old new (Err x)) (sym lost.1) (leaves-lost old at new kept left (subst (λ f. Streamed at new (Some f)) lost.0 one))
+    | inr bookless ↦ subst (λ x. LeavesKeeper old new (Err x)) (sym bookless.1) (leaves-bookless old at new kept left (subst (λ f. Streamed at new (Some f)) bookless.0 one))
   ]
 
   module _ {L : Type 0} (tells : L → Fault → L → Type 0) where
     -- one stream more was served
-    pub each-more : (old at new : KeeperValue S) (was mid is : L) (ends : List (Option Fault)) (end : Option Fault)
-        → ServesEach g tells old at was mid ends → ServesStream g tells at new mid is end → ServesEach g tells old new was is (ends ++ end ∷ [])
+    pub each-more : (old at new : Keeper S T g) (was mid is : L) (ends : List (Option Fault)) (end : Option Fault)
+        → ServesEach tells old at was mid ends → ServesStream tells at new mid is end → ServesEach tells old new was is (ends ++ end ∷ [])
     each-more old at new was mid is [] end (same, silent) one =
-        (new, is, subst (λ k. ServesStream g tells k new was is end) same (subst (λ l. ServesStream g tells at new l is end) silent one), (refl, refl))
+        (new, is, subst (λ k. ServesStream tells k new was is end) same (subst (λ l. ServesStream tells at new l is end) silent one), (refl, refl))
     each-more old at new was mid is (first ∷ ends) end (k, l, served, rest) one = (k, l, served, each-more k at new l mid is ends end rest one)
 
     -- the streams so far: these many of those that were to be taken
-    pub record SoFar (old new : KeeperValue S) (was is : L) (most left : ℕ) : Type 0 where
+    pub record SoFar (old new : Keeper S T g) (was is : L) (most left : ℕ) : Type 0 where
       pub ends : List (Option Fault)
       pub count : length ends + left ≡ most
-      pub each : ServesEach g tells old new was is ends
+      pub each : ServesEach tells old new was is ends
 
-    pub starts : (k : KeeperValue S) (l : L) (most : ℕ) → SoFar k k l l most most
+    pub starts : (k : Keeper S T g) (l : L) (most : ℕ) → SoFar k k l l most most
     starts k l most = record { ends = []; count = omega arith; each = (refl, refl) }
 
-    pub goes : (old at new : KeeperValue S) (was mid is : L) (most left less : ℕ) (end : Option Fault) → left ≡ less + 1
-        → SoFar old at was mid most left → ServesStream g tells at new mid is end → SoFar old new was is most less
+    pub goes : (old at new : Keeper S T g) (was mid is : L) (most left less : ℕ) (end : Option Fault) → left ≡ less + 1
+        → SoFar old at was mid most left → ServesStream tells at new mid is end → SoFar old new was is most less
     goes old at new was mid is most left less end one so-far served = record {
       ends = so-far.ends ++ end ∷ [];
       count = omega (arith, one, so-far.count, length-append so-far.ends (end ∷ []));
@@ -164,13 +165,13 @@ module _ {S : Type 0} (g : Ghosts S) where
     }
 
     -- the last stream ended the desk
-    pub ended : (old at new : KeeperValue S) (was is : L) (most left less : ℕ) (fault : Fault) (end : Unserved) → desk_end fault ≡ Some end → left ≡ less + 1
-        → SoFar old at was is most left → Streamed g at new (Some fault) → ServesStreams g tells old new was is most less (Err end)
+    pub ended : (old at new : Keeper S T g) (was is : L) (most left less : ℕ) (fault : Fault) (end : Unserved) → desk_end fault ≡ Some end → left ≡ less + 1
+        → SoFar old at was is most left → Streamed at new (Some fault) → ServesStreams tells old new was is most less (Err end)
     ended old at new was is most left less fault end e one so-far last = elim (end-is fault end e) [
-      | inl lost ↦ subst (λ x. ServesStreams g tells old new was is most less (Err x)) (sym lost.1)
-          (so-far.ends, last-count, (at, so-far.each, subst (λ f. Streamed g at new (Some f)) lost.0 last))
-      | inr bookless ↦ subst (λ x. ServesStreams g tells old new was is most less (Err x)) (sym bookless.1)
-          (so-far.ends, last-count, (at, so-far.each, subst (λ f. Streamed g at new (Some f)) bookless.0 last))
+      | inl lost ↦ subst (λ x. ServesStreams tells old new was is most less (Err x)) (sym lost.1)
+          (so-far.ends, last-count, (at, so-far.each, subst (λ f. Streamed at new (Some f)) lost.0 last))
+      | inr bookless ↦ subst (λ x. ServesStreams tells old new was is most less (Err x)) (sym bookless.1)
+          (so-far.ends, last-count, (at, so-far.each, subst (λ f. Streamed at new (Some f)) bookless.0 last))
     ]
       where
         last-count : length so-far.ends + less + 1 ≡ most

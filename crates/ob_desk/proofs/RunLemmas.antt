@@ -8,7 +8,8 @@ use Rattle.ob_base.specs.declared.stop.Fault.TheVariants.{OutOfMemory, Store, Re
 use Rattle.ob_stream.specs.declared.watched.Watched.{Watched}
 use Rattle.ob_book.specs.Acts.{ActState}
 use Rattle.ob_store.specs.Calls.{WasClean}
-use Rattle.ob_store.specs.Keepers.{Ghosts, KeeperValue}
+use Rattle.ob_store.specs.Keepers.{Ghosts}
+use Rattle.ob_store.specs.declared.keeper.Keeper.{Keeper}
 use Rattle.ob_http_requests.specs.Continue.{interim_text}
 use Rattle.ob_http_requests.specs.Message.{Message}
 use Rattle.ob_http_requests.specs.Stream.{AfterKnown, ends}
@@ -37,25 +38,25 @@ goes-on allowed m some e = not-last allowed some (or-false m.closes (allowed == 
     not-last : (n : ℕ) → 1 ≤ n → (n == 1) ≡ false → 1 ≤ n - 1
     not-last n some e = grind (arith, nat_tests)
 
-module _ {S : Type 0} (g : Ghosts S) where
+same-allowed : (allowed : ℕ) (ms : List Message) → allowed + length ms ≡ 1000 → 1000 - length ms ≡ allowed
+same-allowed allowed ms count = omega (arith, count)
+
+module _ {S T : Type 0} {g : Ghosts S} where
   -- the requests so far were read and answered, and after none of them the connection ends
-  pub record SoFar (stream now had has : Option (List ℕ)) (old new : KeeperValue S) (allowed : ℕ) : Type 0 where
+  pub record SoFar (stream now had has : Option (List ℕ)) (old new : Keeper S T g) (allowed : ℕ) : Type 0 where
     pub requests : List Message
     pub read : AfterKnown 1000 stream requests now
     pub count : allowed + length requests ≡ 1000
     pub some : 1 ≤ allowed
-    pub answered : (x : Option ActState) → Over g old new x → (text : List ℕ) × (y : Option ActState) × Replies 1000 x requests text y × Appends had has text × Stands g new y
-
-  same-allowed : (allowed : ℕ) (ms : List Message) → allowed + length ms ≡ 1000 → 1000 - length ms ≡ allowed
-  same-allowed allowed ms count = omega (arith, count)
+    pub answered : (x : Option ActState) → Over old new x → (text : List ℕ) × (y : Option ActState) × Replies 1000 x requests text y × Appends had has text × Stands new y
 
   -- what is written and stands after one answer more
-  one-more : (stream now left had mid has : Option (List ℕ)) (old at new : KeeperValue S) (allowed : ℕ) (ended : Bool) → WasClean g at new
-      → (run : SoFar stream now had mid old at allowed) (turn : TurnAnswers g allowed now left mid has at new ended)
-      → (x : Option ActState) → Over g old new x → (text : List ℕ) × (y : Option ActState) × Replies 1000 x (run.requests ++ turn.message ∷ []) text y × Appends had has text × Stands g new y
+  one-more : (stream now left had mid has : Option (List ℕ)) (old at new : Keeper S T g) (allowed : ℕ) (ended : Bool) → WasClean at new
+      → (run : SoFar stream now had mid old at allowed) (turn : TurnAnswers allowed now left mid has at new ended)
+      → (x : Option ActState) → Over old new x → (text : List ℕ) × (y : Option ActState) × Replies 1000 x (run.requests ++ turn.message ∷ []) text y × Appends had has text × Stands new y
   one-more stream now left had mid has old at new allowed ended clean run turn x over =
-      let so = run.answered x (over-before g old at new x clean over) in
-      let more = turn.answered so.1 (over-then g old at new x so.1 1000 run.requests so.0 so.2 over so.4) in
+      let so = run.answered x (over-before old at new x clean over) in
+      let more = turn.answered so.1 (over-then old at new x so.1 1000 run.requests so.0 so.2 over so.4) in
       let is : ended ≡ ends (1000 - length run.requests) turn.message = turn.last ∙ ap (λ n. ends n turn.message) (sym (same-allowed allowed run.requests run.count)) in (
         so.0 ++ (interim_text turn.message.waits ++ more.0),
         more.1,
@@ -65,18 +66,18 @@ module _ {S : Type 0} (g : Ghosts S) where
       )
 
   -- no request so far
-  pub run-starts : (stream had : Option (List ℕ)) (old : KeeperValue S) → SoFar stream (unread [] stream) had had old old 1000
+  pub run-starts : (stream had : Option (List ℕ)) (old : Keeper S T g) → SoFar stream (unread [] stream) had had old old 1000
   run-starts stream had old = record {
     requests = [];
     read = known-start 1000 stream;
     count = omega arith;
     some = omega arith;
-    answered = λ x over. ([], x, (refl, refl), Appends-nothing had had (Keeps-same had), over-stands g old old x over);
+    answered = λ x over. ([], x, (refl, refl), Appends-nothing had had (Keeps-same had), over-stands old old x over);
   }
 
   -- the connection goes on
-  pub run-goes : (stream now left had mid has : Option (List ℕ)) (old at new : KeeperValue S) (allowed : ℕ) (ended : Bool) → WasClean g at new → ended ≡ false
-      → SoFar stream now had mid old at allowed → TurnAnswers g allowed now left mid has at new ended
+  pub run-goes : (stream now left had mid has : Option (List ℕ)) (old at new : Keeper S T g) (allowed : ℕ) (ended : Bool) → WasClean at new → ended ≡ false
+      → SoFar stream now had mid old at allowed → TurnAnswers allowed now left mid has at new ended
       → SoFar stream left had has old new (allowed - 1)
   run-goes stream now left had mid has old at new allowed ended clean on run turn =
       let goes : ends allowed turn.message ≡ false = sym turn.last ∙ on in record {
@@ -89,9 +90,9 @@ module _ {S : Type 0} (g : Ghosts S) where
       }
 
   -- the connection ends after this request
-  pub run-ended : (stream now left had mid has : Option (List ℕ)) (old at new : KeeperValue S) (allowed : ℕ) (ended : Bool) → WasClean g at new → ended ≡ true
-      → SoFar stream now had mid old at allowed → TurnAnswers g allowed now left mid has at new ended
-      → Serves g stream had has old new (1000 - allowed + 1)
+  pub run-ended : (stream now left had mid has : Option (List ℕ)) (old at new : Keeper S T g) (allowed : ℕ) (ended : Bool) → WasClean at new → ended ≡ true
+      → SoFar stream now had mid old at allowed → TurnAnswers allowed now left mid has at new ended
+      → Serves stream had has old new (1000 - allowed + 1)
   run-ended stream now left had mid has old at new allowed ended clean on run turn =
       let more = one-more stream now left had mid has old at new allowed ended clean run turn in record {
         requests = run.requests ++ turn.message ∷ [];
@@ -105,16 +106,16 @@ module _ {S : Type 0} (g : Ghosts S) where
       }
 
   -- the stream has no byte more, or bytes that are refused: the keeper stays
-  ends-so : (stream now had mid has : Option (List ℕ)) (old at new : KeeperValue S) (allowed : ℕ) (ending : Option HeadRefusal) (tail : List ℕ) → new ≡ at
+  ends-so : (stream now had mid has : Option (List ℕ)) (old at new : Keeper S T g) (allowed : ℕ) (ending : Option HeadRefusal) (tail : List ℕ) → new ≡ at
       → (run : SoFar stream now had mid old at allowed) → Appends mid has tail
-      → (x : Option ActState) → Over g old new x → (text : List ℕ) × (y : Option ActState) × Replies 1000 x run.requests text y × Appends had has (text ++ tail) × Stands g new y × IsActed x y
+      → (x : Option ActState) → Over old new x → (text : List ℕ) × (y : Option ActState) × Replies 1000 x run.requests text y × Appends had has (text ++ tail) × Stands new y × IsActed x y
   ends-so stream now had mid has old at new allowed ending tail same run more x over =
-      let so = run.answered x (subst (λ k. Over g old k x) same over) in
-      (so.0, so.1, so.2, Appends-then had mid has so.0 tail so.3 more, subst (λ k. Stands g k so.1) (sym same) so.4, replies-act 1000 x so.1 run.requests so.0 so.2)
+      let so = run.answered x (subst (λ k. Over old k x) same over) in
+      (so.0, so.1, so.2, Appends-then had mid has so.0 tail so.3 more, subst (λ k. Stands k so.1) (sym same) so.4, replies-act 1000 x so.1 run.requests so.0 so.2)
 
-  pub run-closed : (stream now left had mid has : Option (List ℕ)) (old at new : KeeperValue S) (allowed : ℕ) → SoFar stream now had mid old at allowed
-      → TurnIs g allowed now left mid has at new turns.Closed
-      → Serves g stream had has old new (1000 - allowed)
+  pub run-closed : (stream now left had mid has : Option (List ℕ)) (old at new : Keeper S T g) (allowed : ℕ) → SoFar stream now had mid old at allowed
+      → TurnIs allowed now left mid has at new turns.Closed
+      → Serves stream had has old new (1000 - allowed)
   run-closed stream now left had mid has old at new allowed run (none, kept, same) = record {
     requests = run.requests;
     ending = None;
@@ -124,9 +125,9 @@ module _ {S : Type 0} (g : Ghosts S) where
     answered = ends-so stream now had mid has old at new allowed None [] same run (Appends-nothing mid has kept);
   }
 
-  pub run-refused : (stream now left had mid has : Option (List ℕ)) (old at new : KeeperValue S) (allowed : ℕ) → SoFar stream now had mid old at allowed
-      → TurnIs g allowed now left mid has at new turns.Refused
-      → Serves g stream had has old new (1000 - allowed + 1)
+  pub run-refused : (stream now left had mid has : Option (List ℕ)) (old at new : Keeper S T g) (allowed : ℕ) → SoFar stream now had mid old at allowed
+      → TurnIs allowed now left mid has at new turns.Refused
+      → Serves stream had has old new (1000 - allowed + 1)
   run-refused stream now left had mid has old at new allowed run (refusal, refused, more, same) = record {
     requests = run.requests;
     ending = Some refusal;
@@ -137,16 +138,16 @@ module _ {S : Type 0} (g : Ghosts S) where
   }
 
   -- there was no book at the beginning where there is none now
-  cause-before : {R W : Type 0} (rest : Option (List ℕ)) (reader : Watched R) (writer : Watched W) (old at : KeeperValue S) (fault : Fault) → IsKept g old at None
-      → HasCause g rest reader writer at fault → HasCause g rest reader writer old fault
+  cause-before : {R W : Type 0} (rest : Option (List ℕ)) (reader : Watched R) (writer : Watched W) (old at : Keeper S T g) (fault : Fault) → IsKept old at None
+      → HasCause rest reader writer at fault → HasCause rest reader writer old fault
   cause-before rest reader writer old at OutOfMemory kept h = tt
   cause-before rest reader writer old at Store kept h = tt
-  cause-before rest reader writer old at Reopen kept h = none-before g old at kept h
+  cause-before rest reader writer old at Reopen kept h = none-before old at kept h
   cause-before rest reader writer old at Input kept h = h
   cause-before rest reader writer old at Output kept h = h
 
   -- memory was refused before the first request
-  pub fails-first : {R W : Type 0} (stream left had : Option (List ℕ)) (reader : Watched R) (writer : Watched W) (k : KeeperValue S) → Fails g stream left had had reader writer k k OutOfMemory
+  pub fails-first : {R W : Type 0} (stream left had : Option (List ℕ)) (reader : Watched R) (writer : Watched W) (k : Keeper S T g) → Fails stream left had had reader writer k k OutOfMemory
   fails-first stream left had reader writer k = record {
     requests = [];
     rest = stream;
@@ -154,7 +155,7 @@ module _ {S : Type 0} (g : Ghosts S) where
     few = omega arith;
     cause = tt;
     answered = λ x over.
-        let stands = over-stands g k k x over in (
+        let stands = over-stands k k x over in (
           [],
           [],
           x,
@@ -162,7 +163,7 @@ module _ {S : Type 0} (g : Ghosts S) where
           Appends-nothing had had (Keeps-same had),
           inl (inl refl, stands),
           replies-act 1000 x x [] [] (refl, refl),
-          breaks-outlast g reader writer 1000 stream left [] k x OutOfMemory (inl (inl refl, stands)),
+          breaks-outlast reader writer 1000 stream left [] k x OutOfMemory (inl (inl refl, stands)),
         );
   }
     where
@@ -171,10 +172,10 @@ module _ {S : Type 0} (g : Ghosts S) where
       known-none (Some bytes) = refl
 
   -- a fault ends the stream
-  pub run-fails : {R W : Type 0} (stream now left had mid has : Option (List ℕ)) (reader : Watched R) (writer : Watched W) (old at new : KeeperValue S) (allowed : ℕ) (fault : Fault)
-      → WasClean g at new → IsKept g old at None
-      → SoFar stream now had mid old at allowed → TurnFails g allowed now left mid has reader writer at new fault
-      → Fails g stream left had has reader writer old new fault
+  pub run-fails : {R W : Type 0} (stream now left had mid has : Option (List ℕ)) (reader : Watched R) (writer : Watched W) (old at new : Keeper S T g) (allowed : ℕ) (fault : Fault)
+      → WasClean at new → IsKept old at None
+      → SoFar stream now had mid old at allowed → TurnFails allowed now left mid has reader writer at new fault
+      → Fails stream left had has reader writer old new fault
   run-fails stream now left had mid has reader writer old at new allowed fault clean kept run turn = record {
     requests = run.requests;
     rest = now;
@@ -182,15 +183,15 @@ module _ {S : Type 0} (g : Ghosts S) where
     few = omega (arith, run.count, run.some);
     cause = cause-before now reader writer old at fault kept turn.cause;
     answered = λ x over.
-        let so = run.answered x (over-before g old at new x clean over) in
-        let broken = turn.broken so.1 (over-then g old at new x so.1 1000 run.requests so.0 so.2 over so.4) in (
+        let so = run.answered x (over-before old at new x clean over) in
+        let broken = turn.broken so.1 (over-then old at new x so.1 1000 run.requests so.0 so.2 over so.4) in (
           so.0,
           broken.0,
           so.1,
           so.2,
           Appends-then had mid has so.0 broken.0 so.3 broken.1,
-          subst (λ n. Breaks g reader writer n now left broken.0 new so.1 fault) (sym (same-allowed allowed run.requests run.count)) broken.2,
+          subst (λ n. Breaks reader writer n now left broken.0 new so.1 fault) (sym (same-allowed allowed run.requests run.count)) broken.2,
           replies-act 1000 x so.1 run.requests so.0 so.2,
-          breaks-outlast g reader writer allowed now left broken.0 new so.1 fault broken.2,
+          breaks-outlast reader writer allowed now left broken.0 new so.1 fault broken.2,
         );
   }

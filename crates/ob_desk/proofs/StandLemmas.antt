@@ -6,7 +6,8 @@ use Rattle.ob_base.specs.declared.stop.Fault.TheVariants.{Store}
 use Rattle.ob_state.specs.State.{BookState}
 use Rattle.ob_book.specs.Acts.{ActState}
 use Rattle.ob_store.specs.Calls.{WasClean}
-use Rattle.ob_store.specs.Keepers.{Ghosts, KeeperValue}
+use Rattle.ob_store.specs.Keepers.{Ghosts, book_of}
+use Rattle.ob_store.specs.declared.keeper.Keeper.{Keeper}
 use Rattle.ob_http_requests.specs.Message.{Message}
 use Rattle.ob_desk.specs.Exchanges.{Replies}
 use Rattle.ob_desk.specs.Standing.{IsKept, Over, Stands, fault_of}
@@ -39,58 +40,58 @@ lost-by result P (to, from) = ((λ p. ap fault_of (to p)), λ e. from (back resu
         same : (f : Fault) → Some f ≡ Some Store → f ≡ Store
         same f e = cc
 
-module _ {S : Type 0} (g : Ghosts S) where
+module _ {S T : Type 0} {g : Ghosts S} where
   -- nothing changed, and the store has not failed
-  pub kept-same : (k : KeeperValue S) (fault : Option Fault) → (fault ≡ Some Store → ⊥) → IsKept g k k fault
+  pub kept-same : (k : Keeper S T g) (fault : Option Fault) → (fault ≡ Some Store → ⊥) → IsKept k k fault
   kept-same k fault other = record {
     clean = λ disk. disk;
     unopened = λ none. refl;
-    dropped = λ some. ((λ none. absurd (not-none k.book some none)), λ lost. absurd (other lost));
+    dropped = λ some. ((λ none. absurd (not-none (book_of k) some none)), λ lost. absurd (other lost));
   }
 
   -- one call after another, which met no fault
-  pub kept-then : (old at new : KeeperValue S) (fault : Option Fault) → IsKept g old at None → IsKept g at new fault → IsKept g old new fault
+  pub kept-then : (old at new : Keeper S T g) (fault : Option Fault) → IsKept old at None → IsKept at new fault → IsKept old new fault
   kept-then old at new fault first second = record {
     clean = λ disk. first.clean (second.clean disk);
-    unopened = λ none. let same = first.unopened none in second.unopened (ap (λ k. k.book) same ∙ none) ∙ same;
-    dropped = λ some. second.dropped (is-some at.book (λ none. not-lost ((first.dropped some).0 none)));
+    unopened = λ none. let same = first.unopened none in second.unopened (ap (λ k. book_of k) same ∙ none) ∙ same;
+    dropped = λ some. second.dropped (is-some (book_of at) (λ none. not-lost ((first.dropped some).0 none)));
   }
     where
       not-lost : (let o : Option Fault = None in o) ≡ Some Store → ⊥
       not-lost e = cc
 
-  pub over-stands : (old new : KeeperValue S) (x : Option ActState) → Over g old new x → Stands g old x
+  pub over-stands : (old new : Keeper S T g) (x : Option ActState) → Over old new x → Stands old x
   over-stands old new None h = h
   over-stands old new (Some b) (clean, ties, some) = (ties, some)
 
-  pub over-before : (first at new : KeeperValue S) (x : Option ActState) → WasClean g at new → Over g first new x → Over g first at x
+  pub over-before : (first at new : Keeper S T g) (x : Option ActState) → WasClean at new → Over first new x → Over first at x
   over-before first at new None clean h = h
   over-before first at new (Some b) clean (disk, ties, some) = (clean disk, ties, some)
 
-  pub over-then : (old mid new : KeeperValue S) (x y : Option ActState) (allowed : ℕ) (ms : List Message) (text : List ℕ)
-      → Replies allowed x ms text y → Over g old new x → Stands g mid y → Over g mid new y
+  pub over-then : (old mid new : Keeper S T g) (x y : Option ActState) (allowed : ℕ) (ms : List Message) (text : List ℕ)
+      → Replies allowed x ms text y → Over old new x → Stands mid y → Over mid new y
   over-then old mid new x None allowed ms text replies over stands = stands
   over-then old mid new None (Some c) allowed ms text replies over stands = absurd (stays-none allowed ms text c replies)
   over-then old mid new (Some b) (Some c) allowed ms text replies (disk, ties, some) stands = (disk, stands.0, stands.1)
 
   -- from the clauses of a call that ended so
-  pub kept-by : {A : Type 0} (old new : KeeperValue S) (r : Result A Fault) (P : Type 0) → WasClean g old new
-      → (old.book ≡ None → (new ≡ old) × P) → (IsSome old.book → (new.book ≡ None) ↔ (r ≡ Err Store)) → IsKept g old new (fault_of r)
+  pub kept-by : {A : Type 0} (old new : Keeper S T g) (r : Result A Fault) (P : Type 0) → WasClean old new
+      → (book_of old ≡ None → (new ≡ old) × P) → (IsSome (book_of old) → (book_of new ≡ None) ↔ (r ≡ Err Store)) → IsKept old new (fault_of r)
   kept-by old new r P clean unopened dropped = record {
     clean = clean;
     unopened = λ none. (unopened none).0;
-    dropped = λ some. lost-by r (new.book ≡ None) (dropped some);
+    dropped = λ some. lost-by r (book_of new ≡ None) (dropped some);
   }
 
   -- without a fault a book stays one
-  pub still-some : (old new : KeeperValue S) → IsKept g old new None → IsSome old.book → IsSome new.book
-  still-some old new kept some = is-some new.book (λ none. not-lost ((kept.dropped some).0 none))
+  pub still-some : (old new : Keeper S T g) → IsKept old new None → IsSome (book_of old) → IsSome (book_of new)
+  still-some old new kept some = is-some (book_of new) (λ none. not-lost ((kept.dropped some).0 none))
     where
       not-lost : (let o : Option Fault = None in o) ≡ Some Store → ⊥
       not-lost e = cc
 
   -- a fault that isn't the store's, after no fault
-  pub kept-err : (old new : KeeperValue S) (fault : Fault) → (fault ≡ Store → ⊥) → IsKept g old new None → IsKept g old new (Some fault)
+  pub kept-err : (old new : Keeper S T g) (fault : Fault) → (fault ≡ Store → ⊥) → IsKept old new None → IsKept old new (Some fault)
   kept-err old new fault other kept = record {
     clean = kept.clean;
     unopened = kept.unopened;
@@ -103,16 +104,16 @@ module _ {S : Type 0} (g : Ghosts S) where
       same : (f : Fault) → Some f ≡ Some Store → f ≡ Store
       same f e = cc
 
-  pub kept-none : (k : KeeperValue S) → IsKept g k k None
+  pub kept-none : (k : Keeper S T g) → IsKept k k None
   kept-none k = kept-same k None not-lost
     where
       not-lost : (let o : Option Fault = None in o) ≡ Some Store → ⊥
       not-lost e = cc
 
   -- where there is no book now there was none before
-  pub none-before : (old new : KeeperValue S) → IsKept g old new None → new.book ≡ None → old.book ≡ None
-  none-before old new kept none = by-book old.book refl
+  pub none-before : (old new : Keeper S T g) → IsKept old new None → book_of new ≡ None → book_of old ≡ None
+  none-before old new kept none = by-book (book_of old) refl
     where
-      by-book : (o : Option BookState) → old.book ≡ o → old.book ≡ None
+      by-book : (o : Option BookState) → book_of old ≡ o → book_of old ≡ None
       by-book None is = is
-      by-book (Some b) is = absurd (not-none new.book (still-some old new kept (subst (λ o. IsSome o) (sym is) refl)) none)
+      by-book (Some b) is = absurd (not-none (book_of new) (still-some old new kept (subst (λ o. IsSome o) (sym is) refl)) none)

@@ -7,7 +7,8 @@ use Rattle.ob_stream.specs.Streams.{AppendsFront}
 use Rattle.ob_stream.specs.Watching.{HasJustFailed}
 use Rattle.ob_stream.specs.declared.watched.Watched.{Watched}
 use Rattle.ob_book.specs.Acts.{ActState}
-use Rattle.ob_store.specs.Keepers.{Ghosts, KeeperValue}
+use Rattle.ob_store.specs.Keepers.{Ghosts}
+use Rattle.ob_store.specs.declared.keeper.Keeper.{Keeper}
 use Rattle.ob_http_requests.specs.Continue.{interim_text}
 use Rattle.ob_http_requests.specs.Head.{IsCutHead}
 use Rattle.ob_http_requests.specs.Message.{Message, IsCut, IsCutBody, IsRefused, ReadsKnown}
@@ -40,67 +41,67 @@ writes-so-far unread left had has written = elim written [
   | inr (framing, target, after, starts, interim) ↦ (interim_text framing.waits, interim, inr (framing, target, after, starts, refl))
 ]
 
-module _ {S : Type 0} (g : Ghosts S) where
+module _ {S T : Type 0} {g : Ghosts S} where
   -- nothing more is read
-  pub turn-stops : {R W : Type 0} (allowed : ℕ) (unread left had has : Option (List ℕ)) (reader : Watched R) (writer : Watched W) (k : KeeperValue S) (fault : Fault)
-      → Stops unread left had has reader writer fault → TurnFails g allowed unread left had has reader writer k k fault
+  pub turn-stops : {R W : Type 0} (allowed : ℕ) (unread left had has : Option (List ℕ)) (reader : Watched R) (writer : Watched W) (k : Keeper S T g) (fault : Fault)
+      → Stops unread left had has reader writer fault → TurnFails allowed unread left had has reader writer k k fault
   turn-stops allowed unread left had has reader writer k OutOfMemory stops = record {
     cause = tt;
-    broken = λ x over. let so = writes-head unread had has stops in (so.0, so.1, inl (so.2, over-stands g k k x over));
+    broken = λ x over. let so = writes-head unread had has stops in (so.0, so.1, inl (so.2, over-stands k k x over));
   }
   turn-stops allowed unread left had has reader writer k Store stops = absurd stops
   turn-stops allowed unread left had has reader writer k Reopen stops = absurd stops
   turn-stops allowed unread left had has reader writer k Input (failed, stops) = record {
     cause = inl failed;
-    broken = λ x over. let so = writes-so-far unread left had has stops in (so.0, so.1, (inl (failed, so.2), over-stands g k k x over));
+    broken = λ x over. let so = writes-so-far unread left had has stops in (so.0, so.1, (inl (failed, so.2), over-stands k k x over));
   }
   turn-stops allowed unread left had has reader writer k Output (failed, (framing, target, after, starts, front)) = record {
     cause = failed;
     broken = λ x over. (
       take front.count (interim_text framing.waits),
       front.appends,
-      inl ((framing, target, after, starts, (front.count, front.fewer, refl)), over-stands g k k x over),
+      inl ((framing, target, after, starts, (front.count, front.fewer, refl)), over-stands k k x over),
     );
   }
 
   -- the stream ends inside a request
-  pub turn-cut : {R W : Type 0} (allowed : ℕ) (unread after left had has : Option (List ℕ)) (reader : Watched R) (writer : Watched W) (k : KeeperValue S)
-      → Reads unread after had has nexts.Cut → TurnFails g allowed unread left had has reader writer k k Input
+  pub turn-cut : {R W : Type 0} (allowed : ℕ) (unread after left had has : Option (List ℕ)) (reader : Watched R) (writer : Watched W) (k : Keeper S T g)
+      → Reads unread after had has nexts.Cut → TurnFails allowed unread left had has reader writer k k Input
   turn-cut allowed unread after left had has reader writer k reads = elim reads [
     | inl (cut, kept) ↦ record {
       cause = inr (IfSome-map unread IsCutHead IsCut (λ bytes h. inl h) cut);
-      broken = λ x over. ([], Appends-nothing had has kept, (inr (inl (cut, refl)), over-stands g k k x over));
+      broken = λ x over. ([], Appends-nothing had has kept, (inr (inl (cut, refl)), over-stands k k x over));
     }
     | inr (framing, cut, interim) ↦ record {
       cause = inr (IfSome-map unread (λ bytes. IsCutBody bytes framing) IsCut (λ bytes h. inr (framing, h)) cut);
-      broken = λ x over. (interim_text framing.waits, interim, (inr (inr (framing, cut, refl)), over-stands g k k x over));
+      broken = λ x over. (interim_text framing.waits, interim, (inr (inr (framing, cut, refl)), over-stands k k x over));
     }
   ]
 
   -- bytes are refused, and that can't be written whole
-  pub turn-unrefused : {R W : Type 0} (allowed : ℕ) (unread left had mid has : Option (List ℕ)) (reader : Watched R) (writer : Watched W) (k : KeeperValue S) (refusal : HeadRefusal)
+  pub turn-unrefused : {R W : Type 0} (allowed : ℕ) (unread left had mid has : Option (List ℕ)) (reader : Watched R) (writer : Watched W) (k : Keeper S T g) (refusal : HeadRefusal)
       → IfSome unread (λ bytes. IsRefused bytes refusal) → Keeps had mid → AppendsFront mid has (refusal_text refusal) → HasJustFailed writer
-      → TurnFails g allowed unread left had has reader writer k k Output
+      → TurnFails allowed unread left had has reader writer k k Output
   turn-unrefused allowed unread left had mid has reader writer k refusal refused kept front failed = record {
     cause = failed;
     broken = λ x over. (
       take front.count (refusal_text refusal),
       Appends-then had mid has [] _ (Appends-nothing had mid kept) front.appends,
-      inr (inl (refusal, refused, (front.count, front.fewer, refl), over-stands g k k x over)),
+      inr (inl (refusal, refused, (front.count, front.fewer, refl), over-stands k k x over)),
     );
   }
 
   -- bytes are refused
-  pub turn-refused : (allowed : ℕ) (unread left had mid has : Option (List ℕ)) (k : KeeperValue S) (refusal : HeadRefusal)
+  pub turn-refused : (allowed : ℕ) (unread left had mid has : Option (List ℕ)) (k : Keeper S T g) (refusal : HeadRefusal)
       → IfSome unread (λ bytes. IsRefused bytes refusal) → Keeps had mid → Appends mid has (refusal_text refusal)
-      → TurnIs g allowed unread left had has k k turns.Refused
+      → TurnIs allowed unread left had has k k turns.Refused
   turn-refused allowed unread left had mid has k refusal refused kept more =
       (refusal, refused, Appends-then had mid has [] _ (Appends-nothing had mid kept) more, refl)
 
   -- a request is answered
-  pub turn-answered : (allowed : ℕ) (unread left had mid has : Option (List ℕ)) (old new : KeeperValue S) (m : Message) (ended : Bool)
+  pub turn-answered : (allowed : ℕ) (unread left had mid has : Option (List ℕ)) (old new : Keeper S T g) (m : Message) (ended : Bool)
       → ReadsKnown unread m left → Appends had mid (interim_text m.waits) → ended ≡ ends allowed m
-      → IsAnswered g mid has old new m ended → TurnIs g allowed unread left had has old new (turns.Answered ended)
+      → IsAnswered mid has old new m ended → TurnIs allowed unread left had has old new (turns.Answered ended)
   turn-answered allowed unread left had mid has old new m ended read interim last answered = record {
     message = m;
     read = read;
@@ -109,14 +110,14 @@ module _ {S : Type 0} (g : Ghosts S) where
   }
 
   -- one isn't
-  pub turn-unanswered : {R W : Type 0} (allowed : ℕ) (unread after left had mid has : Option (List ℕ)) (reader : Watched R) (writer : Watched W) (old new : KeeperValue S) (m : Message) (ended : Bool) (fault : Fault)
+  pub turn-unanswered : {R W : Type 0} (allowed : ℕ) (unread after left had mid has : Option (List ℕ)) (reader : Watched R) (writer : Watched W) (old new : Keeper S T g) (m : Message) (ended : Bool) (fault : Fault)
       → ReadsKnown unread m after → Appends had mid (interim_text m.waits) → ended ≡ ends allowed m
-      → IsUnanswered g writer mid has old new m ended fault → HasAnswerCause g writer old fault
-      → TurnFails g allowed unread left had has reader writer old new fault
+      → IsUnanswered writer mid has old new m ended fault → HasAnswerCause writer old fault
+      → TurnFails allowed unread left had has reader writer old new fault
   turn-unanswered allowed unread after left had mid has reader writer old new m ended fault read interim last unanswered cause = by-fault fault unanswered cause
     where
-      no-answer : (f : Fault) → ((x : Option ActState) → Over g old new x → (front : List ℕ) × IsWritten writer front unavailable_text × Appends mid has front × LeftBy g new x m ended f)
-          → (x : Option ActState) → Over g old new x → (part : List ℕ) × Appends had has part × BreaksAnswer g writer allowed unread part new x f
+      no-answer : (f : Fault) → ((x : Option ActState) → Over old new x → (front : List ℕ) × IsWritten writer front unavailable_text × Appends mid has front × LeftBy new x m ended f)
+          → (x : Option ActState) → Over old new x → (part : List ℕ) × Appends had has part × BreaksAnswer writer allowed unread part new x f
       no-answer f broken x over = let so = broken x over in (
         interim_text m.waits ++ so.0,
         Appends-then had mid has (interim_text m.waits) so.0 interim so.2,
@@ -127,12 +128,12 @@ module _ {S : Type 0} (g : Ghosts S) where
           front = so.0;
           unavailable = so.1;
           written = refl;
-          leaves = subst (λ e. LeftBy g new x m e f) last so.3;
+          leaves = subst (λ e. LeftBy new x m e f) last so.3;
         },
       )
 
-      by-fault : (f : Fault) → IsUnanswered g writer mid has old new m ended f → HasAnswerCause g writer old f
-          → TurnFails g allowed unread left had has reader writer old new f
+      by-fault : (f : Fault) → IsUnanswered writer mid has old new m ended f → HasAnswerCause writer old f
+          → TurnFails allowed unread left had has reader writer old new f
       by-fault OutOfMemory broken c = record { cause = tt; broken = λ x over. let so = no-answer OutOfMemory broken x over in (so.0, so.1, inr so.2) }
       by-fault Store broken c = record { cause = tt; broken = no-answer Store broken }
       by-fault Reopen broken c = record { cause = c; broken = no-answer Reopen broken }

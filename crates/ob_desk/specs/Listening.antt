@@ -3,7 +3,8 @@ use Rattle.std.specs.Prelude.{◌≡◌, ◌↔◌, ⊤, ℕ, ◌+◌, ◌<◌, 
 use Rattle.ob_base.specs.declared.stop.Fault.{Fault}
 use Rattle.ob_base.specs.declared.stop.Fault.TheVariants.{OutOfMemory, Store, Reopen, Input, Output}
 use Rattle.ob_store.specs.Calls.{IfHeld, WasClean}
-use Rattle.ob_store.specs.Keepers.{Ghosts, KeeperValue}
+use Rattle.ob_store.specs.Keepers.{Ghosts, book_of}
+use Rattle.ob_store.specs.declared.keeper.Keeper.{Keeper}
 use Rattle.ob_desk.specs.Crashes.{IsLeft}
 use Rattle.ob_desk.specs.Standing.{IsKept}
 use Rattle.ob_desk.specs.declared.listen.Unserved.{Unserved}
@@ -43,42 +44,42 @@ last_fault (Err unserved.Listener) = None
 last_fault (Err unserved.Store) = Some Store
 last_fault (Err unserved.Reopen) = Some Reopen
 
-module _ {S : Type 0} (g : Ghosts S) where
+module _ {S T : Type 0} {g : Ghosts S} where
   -- what a stream makes of a keeper, which was served to its end or until this fault
-  pub record Streamed (old new : KeeperValue S) (fault : Option Fault) : Type 0 where
-    pub kept : IsKept g old new fault
-    pub reopen : fault ≡ Some Reopen → old.book ≡ None
-    pub left : IfHeld g old new (λ b. IsLeft g new b fault)
+  pub record Streamed (old new : Keeper S T g) (fault : Option Fault) : Type 0 where
+    pub kept : IsKept old new fault
+    pub reopen : fault ≡ Some Reopen → book_of old ≡ None
+    pub left : IfHeld old new (λ b. IsLeft new b fault)
 
   -- How a desk leaves its keeper: a clean disk after it was one before it; without a book nothing changes; a book is dropped
   -- exactly where the store has failed, and lacking only where there was none. The book is that of some commands more, also
   -- after a crash.
-  pub record LeavesKeeper (old new : KeeperValue S) (result : Result ⊤ Unserved) : Type 0 where
-    pub clean : WasClean g old new
-    pub unopened : old.book ≡ None → new ≡ old
-    pub dropped : IsSome old.book → (new.book ≡ None) ↔ (result ≡ Err unserved.Store)
-    pub reopen : result ≡ Err unserved.Reopen → old.book ≡ None
-    pub left : IfHeld g old new (λ b. IsLeft g new b (last_fault result))
+  pub record LeavesKeeper (old new : Keeper S T g) (result : Result ⊤ Unserved) : Type 0 where
+    pub clean : WasClean old new
+    pub unopened : book_of old ≡ None → new ≡ old
+    pub dropped : IsSome (book_of old) → (book_of new ≡ None) ↔ (result ≡ Err unserved.Store)
+    pub reopen : result ≡ Err unserved.Reopen → book_of old ≡ None
+    pub left : IfHeld old new (λ b. IsLeft new b (last_fault result))
 
   module _ {L : Type 0} (tells : L → Fault → L → Type 0) where
     -- a stream was served to its end, and nothing was told; or a fault ended it that leaves the desk going, and that was told
-    abbrev pub ServesStream : KeeperValue S → KeeperValue S → L → L → Option Fault → Type 0
+    abbrev pub ServesStream : Keeper S T g → Keeper S T g → L → L → Option Fault → Type 0
     ServesStream old new was is None = Streamed old new None × (is ≡ was)
     ServesStream old new was is (Some fault) = Streamed old new (Some fault) × (desk_end fault ≡ None) × tells was fault is
 
     -- streams were served so, one after the other, which ended so
-    abbrev pub ServesEach : KeeperValue S → KeeperValue S → L → L → List (Option Fault) → Type 0
+    abbrev pub ServesEach : Keeper S T g → Keeper S T g → L → L → List (Option Fault) → Type 0
     ServesEach old new was is [] = (new ≡ old) × (is ≡ was)
     ServesEach old new was is (end ∷ ends) =
-        (mid : KeeperValue S) × (at : L) × ServesStream old mid was at end × ServesEach mid new at is ends
+        (mid : Keeper S T g) × (at : L) × ServesStream old mid was at end × ServesEach mid new at is ends
 
     -- streams were served so, and the next one ended by a fault that ends the desk
-    abbrev pub ServesUntil : KeeperValue S → KeeperValue S → L → L → List (Option Fault) → Fault → Type 0
-    ServesUntil old new was is ends fault = (mid : KeeperValue S) × ServesEach old mid was is ends × Streamed mid new (Some fault)
+    abbrev pub ServesUntil : Keeper S T g → Keeper S T g → L → L → List (Option Fault) → Fault → Type 0
+    ServesUntil old new was is ends fault = (mid : Keeper S T g) × ServesEach old mid was is ends × Streamed mid new (Some fault)
 
     -- Of so many streams that were to be taken so many are left: all were served; or some were, and then none could be taken;
     -- or the last that was taken ended the desk, which isn't told.
-    abbrev pub ServesStreams : KeeperValue S → KeeperValue S → L → L → ℕ → ℕ → Result ⊤ Unserved → Type 0
+    abbrev pub ServesStreams : Keeper S T g → Keeper S T g → L → L → ℕ → ℕ → Result ⊤ Unserved → Type 0
     ServesStreams old new was is most left (Ok done) =
         (ends : List (Option Fault)) × (length ends ≡ most) × (left ≡ 0) × ServesEach old new was is ends
     ServesStreams old new was is most left (Err unserved.Listener) =

@@ -6,7 +6,8 @@ use Rattle.ob_base.specs.declared.stop.Fault.TheVariants.{OutOfMemory, Store, Re
 use Rattle.ob_stream.specs.Watching.{HasJustFailed}
 use Rattle.ob_stream.specs.declared.watched.Watched.{Watched}
 use Rattle.ob_book.specs.Acts.{ActState}
-use Rattle.ob_store.specs.Keepers.{Ghosts, KeeperValue}
+use Rattle.ob_store.specs.Keepers.{Ghosts, book_of}
+use Rattle.ob_store.specs.declared.keeper.Keeper.{Keeper}
 use Rattle.ob_http_requests.specs.Continue.{interim_text}
 use Rattle.ob_http_requests.specs.Head.{IsCutHead}
 use Rattle.ob_http_requests.specs.Message.{Message, IsCut, IsCutBody, IsRefused, ReadsKnown}
@@ -41,17 +42,17 @@ WritesCut rest part =
     (IfSome rest IsCutHead × (part ≡ []))
     ⊎ ((framing : Framing) × IfSome rest (λ bytes. IsCutBody bytes framing) × (part ≡ interim_text framing.waits))
 
-module _ {S : Type 0} (g : Ghosts S) where
+module _ {S T : Type 0} {g : Ghosts S} where
   -- memory was refused to a request that was not read; the state stays
-  abbrev pub BreaksReading : Option (List ℕ) → List ℕ → KeeperValue S → Option ActState → Type 0
-  BreaksReading rest part new x = WritesHead rest part × Stands g new x
+  abbrev pub BreaksReading : Option (List ℕ) → List ℕ → Keeper S T g → Option ActState → Type 0
+  BreaksReading rest part new x = WritesHead rest part × Stands new x
 
   -- no request was read, since the reader's last call failed or the bytes end inside it; the state stays
-  abbrev pub BreaksInput : {R : Type 0} → Watched R → Option (List ℕ) → Option (List ℕ) → List ℕ → KeeperValue S → Option ActState → Type 0
-  BreaksInput reader rest left part new x = ((HasJustFailed reader × WritesSoFar rest left part) ⊎ WritesCut rest part) × Stands g new x
+  abbrev pub BreaksInput : {R : Type 0} → Watched R → Option (List ℕ) → Option (List ℕ) → List ℕ → Keeper S T g → Option ActState → Type 0
+  BreaksInput reader rest left part new x = ((HasJustFailed reader × WritesSoFar rest left part) ⊎ WritesCut rest part) × Stands new x
 
   -- a request was read and answered, and the state that it leaves stands; its interim reply is written, and less than the reply
-  pub record BreaksReply (allowed : ℕ) (rest : Option (List ℕ)) (part : List ℕ) (new : KeeperValue S) (x : Option ActState) : Type 0 where
+  pub record BreaksReply (allowed : ℕ) (rest : Option (List ℕ)) (part : List ℕ) (new : Keeper S T g) (x : Option ActState) : Type 0 where
     pub message : Message
     pub left : Option (List ℕ)
     pub read : ReadsKnown rest message left
@@ -61,29 +62,29 @@ module _ {S : Type 0} (g : Ghosts S) where
     pub front : List ℕ
     pub less : IsFront front reply
     pub written : part ≡ interim_text message.waits ++ front
-    pub stands : Stands g new next
+    pub stands : Stands new next
 
   -- what could not be written: the interim reply, the reply to bytes that are refused, or a reply
-  abbrev pub BreaksWriting : ℕ → Option (List ℕ) → List ℕ → KeeperValue S → Option ActState → Type 0
+  abbrev pub BreaksWriting : ℕ → Option (List ℕ) → List ℕ → Keeper S T g → Option ActState → Type 0
   BreaksWriting allowed rest part new x =
-      (AfterHead rest (λ framing. IsFront part (interim_text framing.waits)) × Stands g new x)
-      ⊎ ((refusal : HeadRefusal) × IfSome rest (λ bytes. IsRefused bytes refusal) × IsFront part (refusal_text refusal) × Stands g new x)
+      (AfterHead rest (λ framing. IsFront part (interim_text framing.waits)) × Stands new x)
+      ⊎ ((refusal : HeadRefusal) × IfSome rest (λ bytes. IsRefused bytes refusal) × IsFront part (refusal_text refusal) × Stands new x)
       ⊎ BreaksReply allowed rest part new x
 
   -- a request was read and could not be answered; its interim reply is written, and that there is no service, whole but where
   -- the writer's last call failed
-  pub record BreaksAnswer {W : Type 0} (writer : Watched W) (allowed : ℕ) (rest : Option (List ℕ)) (part : List ℕ) (new : KeeperValue S) (x : Option ActState) (fault : Fault) : Type 0 where
+  pub record BreaksAnswer {W : Type 0} (writer : Watched W) (allowed : ℕ) (rest : Option (List ℕ)) (part : List ℕ) (new : Keeper S T g) (x : Option ActState) (fault : Fault) : Type 0 where
     pub message : Message
     pub left : Option (List ℕ)
     pub read : ReadsKnown rest message left
     pub front : List ℕ
     pub unavailable : IsWritten writer front unavailable_text
     pub written : part ≡ interim_text message.waits ++ front
-    pub leaves : LeftBy g new x message (ends allowed message) fault
+    pub leaves : LeftBy new x message (ends allowed message) fault
 
   -- what is written of the last request where a fault ended the stream, and what then stands; left are the bytes that the reader
   -- has still to give
-  abbrev pub Breaks : {R W : Type 0} → Watched R → Watched W → ℕ → Option (List ℕ) → Option (List ℕ) → List ℕ → KeeperValue S → Option ActState → Fault → Type 0
+  abbrev pub Breaks : {R W : Type 0} → Watched R → Watched W → ℕ → Option (List ℕ) → Option (List ℕ) → List ℕ → Keeper S T g → Option ActState → Fault → Type 0
   Breaks reader writer allowed rest left part new x OutOfMemory = BreaksReading rest part new x ⊎ BreaksAnswer writer allowed rest part new x OutOfMemory
   Breaks reader writer allowed rest left part new x Store = BreaksAnswer writer allowed rest part new x Store
   Breaks reader writer allowed rest left part new x Reopen = BreaksAnswer writer allowed rest part new x Reopen
@@ -91,34 +92,34 @@ module _ {S : Type 0} (g : Ghosts S) where
   Breaks reader writer allowed rest left part new x Output = BreaksWriting allowed rest part new x
 
   -- why a fault came: the reader has failed, or the stream ends inside a request; the writer has failed; there was no book
-  abbrev pub HasCause : {R W : Type 0} → Option (List ℕ) → Watched R → Watched W → KeeperValue S → Fault → Type 0
+  abbrev pub HasCause : {R W : Type 0} → Option (List ℕ) → Watched R → Watched W → Keeper S T g → Fault → Type 0
   HasCause rest reader writer old OutOfMemory = ⊤
   HasCause rest reader writer old Store = ⊤
-  HasCause rest reader writer old Reopen = old.book ≡ None
+  HasCause rest reader writer old Reopen = book_of old ≡ None
   HasCause rest reader writer old Input = HasJustFailed reader ⊎ IfSome rest IsCut
   HasCause rest reader writer old Output = HasJustFailed writer
 
   -- A run: the stream is these requests and this ending. Each request was answered in its turn; what is written are the replies,
   -- one after the other, and that of the ending; and the state that the last one leaves stands, which is that of some commands.
-  pub record Serves (stream had has : Option (List ℕ)) (old new : KeeperValue S) (replies : ℕ) : Type 0 where
+  pub record Serves (stream had has : Option (List ℕ)) (old new : Keeper S T g) (replies : ℕ) : Type 0 where
     pub requests : List Message
     pub ending : Option HeadRefusal
     pub read : IfSome stream (λ bytes. Requests 1000 bytes requests ending)
     pub counted : replies ≡ length requests + ending_count ending
     pub most : length requests ≤ 1000
-    pub answered : (x : Option ActState) → Over g old new x
-        → (text : List ℕ) × (y : Option ActState) × Replies 1000 x requests text y × Appends had has (text ++ ending_text ending) × Stands g new y
+    pub answered : (x : Option ActState) → Over old new x
+        → (text : List ℕ) × (y : Option ActState) × Replies 1000 x requests text y × Appends had has (text ++ ending_text ending) × Stands new y
         × IsActed x y
 
   -- A run that a fault ended: the first requests of the stream were answered, and their replies are written; of the next one
   -- a part is written, and what stands is what it left. A crash leaves the book after the requests that were answered, with
   -- the first of the commands of the one in work.
-  pub record Fails {R W : Type 0} (stream left had has : Option (List ℕ)) (reader : Watched R) (writer : Watched W) (old new : KeeperValue S) (fault : Fault) : Type 0 where
+  pub record Fails {R W : Type 0} (stream left had has : Option (List ℕ)) (reader : Watched R) (writer : Watched W) (old new : Keeper S T g) (fault : Fault) : Type 0 where
     pub requests : List Message
     pub rest : Option (List ℕ)
     pub read : AfterKnown 1000 stream requests rest
     pub few : length requests < 1000
     pub cause : HasCause rest reader writer old fault
-    pub answered : (x : Option ActState) → Over g old new x
+    pub answered : (x : Option ActState) → Over old new x
         → (text : List ℕ) × (part : List ℕ) × (y : Option ActState) × Replies 1000 x requests text y × Appends had has (text ++ part)
-        × Breaks reader writer (1000 - length requests) rest left part new y fault × IsActed x y × Outlasts g new y
+        × Breaks reader writer (1000 - length requests) rest left part new y fault × IsActed x y × Outlasts new y

@@ -1,6 +1,7 @@
 //! Serves the streams of a listener, one after another.
 ghost use Rattle.std.specs.Prelude.{◌≡◌, ◌↔◌, true, false, None, Err};
 ghost use Rattle.ob_store.specs.Calls.{IfHeld, TellsFaults};
+ghost use Rattle.ob_store.specs.Keepers.{book_of};
 ghost use Rattle.ob_desk.specs.Crashes.{IsLeft};
 ghost use Rattle.ob_desk.specs.Listening.{LeavesKeeper, ServesStreams, desk_end, has_failed, streams_left, unserved_fault};
 ghost use Rattle.ob_desk.specs.Standing.{IsKept, fault_of};
@@ -64,14 +65,14 @@ pub fn run_serve<S: Alter, T: Timeline, L: FaultLog>(
     keeper: &mut Keeper<S, T>,
     log: &mut L,
 ) -> Result<(), Unserved>
-    ensures keeper { LeavesKeeper S.Store keeper.old keeper.new result }
+    ensures keeper { LeavesKeeper keeper.old keeper.new result }
     ensures failed { has_failed listener.old ≡ false → (has_failed listener.new ≡ true)
         ↔ (result ≡ Err Unserved.Listener) }
-    ensures served { ServesStreams S.Store L.tells keeper.old keeper.new log.old log.new
+    ensures served { ServesStreams L.tells keeper.old keeper.new log.old log.new
         (streams_left listener.old) (streams_left listener.new) result }
     // no fault of the store is forgotten, row numbers and the step limit stay, and a store fault has
     // a cause
-    ensures tells { TellsFaults S.Store keeper.old keeper.new (result ≡ Err Unserved.Store) }
+    ensures tells { TellsFaults keeper.old keeper.new (result ≡ Err Unserved.Store) }
 {
     'serving: while listener.has_more() {
         let Some(stream) = listener.take() else {
@@ -106,11 +107,10 @@ fn serve_connection<S: Alter, T: Timeline>(
     stream: &TcpStream,
     keeper: &mut Keeper<S, T>,
 ) -> Result<Served, Fault>
-    ensures kept { IsKept S.Store keeper.old keeper.new (fault_of result) }
-    ensures tells { TellsFaults S.Store keeper.old keeper.new (result ≡ Err Fault.Store) }
-    ensures reopen { result ≡ Err Fault.Reopen → keeper.old.book ≡ None }
-    ensures left { IfHeld S.Store keeper.old keeper.new
-        (λ b. IsLeft S.Store keeper.new b (fault_of result)) }
+    ensures kept { IsKept keeper.old keeper.new (fault_of result) }
+    ensures tells { TellsFaults keeper.old keeper.new (result ≡ Err Fault.Store) }
+    ensures reopen { result ≡ Err Fault.Reopen → book_of keeper.old ≡ None }
+    ensures left { IfHeld keeper.old keeper.new (λ b. IsLeft keeper.new b (fault_of result)) }
 {
     // A reply doesn't wait until the client has acknowledged the one before it. If the system
     // refuses this, replies are only later.

@@ -44,14 +44,13 @@ pub(crate) fn reply_to<W: Write, S: Alter, T: Timeline>(
     request: &Request,
     ends: bool,
 ) -> Result<(), Fault>
-    ensures answered { OnOk result (IsAnswered S.Store (watched_bytes W.contents writer.old)
+    ensures answered { OnOk result (IsAnswered (watched_bytes W.contents writer.old)
         (watched_bytes W.contents writer.new) keeper.old keeper.new (message_of request.now) ends) }
-    ensures unanswered { IfErr result (IsUnanswered S.Store writer.new
-        (watched_bytes W.contents writer.old) (watched_bytes W.contents writer.new) keeper.old
-        keeper.new (message_of request.now) ends) }
-    ensures cause { IfErr result (HasAnswerCause S.Store writer.new keeper.old) }
-    ensures kept { IsKept S.Store keeper.old keeper.new (fault_of result) }
-    ensures tells { TellsFaults S.Store keeper.old keeper.new (result ≡ Err Fault.Store) }
+    ensures unanswered { IfErr result (IsUnanswered writer.new (watched_bytes W.contents writer.old)
+        (watched_bytes W.contents writer.new) keeper.old keeper.new (message_of request.now) ends) }
+    ensures cause { IfErr result (HasAnswerCause writer.new keeper.old) }
+    ensures kept { IsKept keeper.old keeper.new (fault_of result) }
+    ensures tells { TellsFaults keeper.old keeper.new (result ≡ Err Fault.Store) }
     ensures tries { Tries (retries_left retries.old) (retries_left retries.new) writer.old
         writer.new result }
 {

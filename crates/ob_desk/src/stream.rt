@@ -3,6 +3,7 @@ ghost use Rattle.std.specs.Prelude.{◌≡◌, ◌↔◌, [], None, Err, IsSome,
 ghost use Rattle.ob_stream.specs.Retrying.{BothTryAnew};
 ghost use Rattle.ob_stream.specs.Watching.{watched_bytes};
 ghost use Rattle.ob_store.specs.Calls.{TellsFaults, WasClean};
+ghost use Rattle.ob_store.specs.Keepers.{book_of};
 ghost use Rattle.ob_http_requests.specs.Unread.{unread};
 ghost use Rattle.ob_desk.specs.Serving.{Fails, Serves};
 ghost use Rattle.ob_desk.specs.Standing.{IsKept, fault_of};
@@ -47,19 +48,19 @@ pub fn serve_stream<R: Read, W: Write, S: Alter, T: Timeline>(
     writer: &mut Watched<W>,
     keeper: &mut Keeper<S, T>,
 ) -> Result<Served, Fault>
-    ensures serves { IfOk result (λ served. Serves S.Store (watched_bytes R.remaining reader.old)
+    ensures serves { IfOk result (λ served. Serves (watched_bytes R.remaining reader.old)
         (watched_bytes W.contents writer.old) (watched_bytes W.contents writer.new) keeper.old
         keeper.new served.requests) }
-    ensures fails { IfErr result (Fails S.Store (watched_bytes R.remaining reader.old)
+    ensures fails { IfErr result (Fails (watched_bytes R.remaining reader.old)
         (watched_bytes R.remaining reader.new) (watched_bytes W.contents writer.old)
         (watched_bytes W.contents writer.new) reader.new writer.new keeper.old keeper.new) }
-    ensures clean { WasClean S.Store keeper.old keeper.new }
-    ensures unopened { keeper.old.book ≡ None → keeper.new ≡ keeper.old }
-    ensures dropped { IsSome keeper.old.book → (keeper.new.book ≡ None)
+    ensures clean { WasClean keeper.old keeper.new }
+    ensures unopened { book_of keeper.old ≡ None → keeper.new ≡ keeper.old }
+    ensures dropped { IsSome (book_of keeper.old) → (book_of keeper.new ≡ None)
         ↔ (result ≡ Err Fault.Store) }
     // no fault of the store is forgotten, row numbers and the step limit stay, and a store fault has
     // a cause
-    ensures tells { TellsFaults S.Store keeper.old keeper.new (result ≡ Err Fault.Store) }
+    ensures tells { TellsFaults keeper.old keeper.new (result ≡ Err Fault.Store) }
     // interrupted reads and writes are tried again, 65,536 times in all
     ensures tries { BothTryAnew reader.old reader.new writer.old writer.new result }
 {
@@ -80,14 +81,14 @@ fn serve_requests<R: Read, W: Write, S: Alter, T: Timeline>(
     ahead: &mut Ahead,
 ) -> Result<Served, Fault>
     requires { ahead.old ≡ [] }
-    ensures serves { IfOk result (λ served. Serves S.Store (watched_bytes R.remaining reader.old)
+    ensures serves { IfOk result (λ served. Serves (watched_bytes R.remaining reader.old)
         (watched_bytes W.contents writer.old) (watched_bytes W.contents writer.new) keeper.old
         keeper.new served.requests) }
-    ensures fails { IfErr result (Fails S.Store (watched_bytes R.remaining reader.old)
+    ensures fails { IfErr result (Fails (watched_bytes R.remaining reader.old)
         (watched_bytes R.remaining reader.new) (watched_bytes W.contents writer.old)
         (watched_bytes W.contents writer.new) reader.new writer.new keeper.old keeper.new) }
-    ensures kept { IsKept S.Store keeper.old keeper.new (fault_of result) }
-    ensures tells { TellsFaults S.Store keeper.old keeper.new (result ≡ Err Fault.Store) }
+    ensures kept { IsKept keeper.old keeper.new (fault_of result) }
+    ensures tells { TellsFaults keeper.old keeper.new (result ≡ Err Fault.Store) }
     ensures tries { BothTryAnew reader.old reader.new writer.old writer.new result }
 {
     let mut retries = Retries::new();

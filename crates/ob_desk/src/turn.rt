@@ -52,17 +52,16 @@ pub(crate) fn serve_turn<R: Read, W: Write, S: Alter, T: Timeline>(
     ahead: &mut Ahead,
     allowed: u32,
 ) -> Result<Turn, Fault>
-    ensures turn { IfOk result (TurnIs S.Store allowed
-        (unread ahead.old (watched_bytes R.remaining reader.old))
-        (unread ahead.new (watched_bytes R.remaining reader.new))
-        (watched_bytes W.contents writer.old) (watched_bytes W.contents writer.new) keeper.old
-        keeper.new) }
-    ensures fails { IfErr result (TurnFails S.Store allowed
-        (unread ahead.old (watched_bytes R.remaining reader.old))
-        (watched_bytes R.remaining reader.new) (watched_bytes W.contents writer.old)
-        (watched_bytes W.contents writer.new) reader.new writer.new keeper.old keeper.new) }
-    ensures kept { IsKept S.Store keeper.old keeper.new (fault_of result) }
-    ensures tells { TellsFaults S.Store keeper.old keeper.new (result ≡ Err Fault.Store) }
+    ensures turn { IfOk result (TurnIs allowed (unread ahead.old
+        (watched_bytes R.remaining reader.old)) (unread ahead.new
+        (watched_bytes R.remaining reader.new)) (watched_bytes W.contents writer.old)
+        (watched_bytes W.contents writer.new) keeper.old keeper.new) }
+    ensures fails { IfErr result (TurnFails allowed (unread ahead.old
+        (watched_bytes R.remaining reader.old)) (watched_bytes R.remaining reader.new)
+        (watched_bytes W.contents writer.old) (watched_bytes W.contents writer.new) reader.new
+        writer.new keeper.old keeper.new) }
+    ensures kept { IsKept keeper.old keeper.new (fault_of result) }
+    ensures tells { TellsFaults keeper.old keeper.new (result ≡ Err Fault.Store) }
     ensures tries { BothTry (retries_left retries.old) (retries_left retries.new) reader.old
         reader.new writer.old writer.new result }
 {

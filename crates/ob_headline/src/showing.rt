@@ -2,7 +2,7 @@
 ghost use Rattle.std.specs.Prelude.{◌≡◌, ◌↔◌, IsNone, IfOk, IfErr, IfSome};
 ghost use Rattle.ob_base.specs.Stop.{out_of_memory};
 ghost use Rattle.ob_book.specs.Acts.{ActState};
-ghost use Rattle.ob_store.specs.Keepers.{Ties};
+ghost use Rattle.ob_store.specs.Keepers.{Ties, book_of};
 ghost use Rattle.ob_headline.specs.Headline.{HasNoAmount, IsHeadline};
 
 use crate::figures::{Shown, shown_of};
@@ -23,9 +23,9 @@ pub fn shown<S: Alter, T: Timeline>(
     key: u16,
     which: Which,
 ) -> Result<Option<Shown>, Stop>
-    ensures headline { (b : ActState) → Ties S.Store keeper.now b
+    ensures headline { (b : ActState) → Ties keeper.now b
         → IfOk result (λ shown. IfSome shown (IsHeadline b dim key which)) }
-    ensures none { IfOk result (λ shown. IsNone shown ↔ HasNoAmount keeper.now.book dim key) }
+    ensures none { IfOk result (λ shown. IsNone shown ↔ HasNoAmount (book_of keeper.now) dim key) }
     ensures err { IfErr result (λ stop. stop ≡ out_of_memory) }
 {
     let Some(book) = keeper.book() else {

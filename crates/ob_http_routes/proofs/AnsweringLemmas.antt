@@ -8,7 +8,8 @@ use Rattle.ob_command.specs.declared.command.Command.{Command}
 use Rattle.ob_state.specs.Refusals.{refusal}
 use Rattle.ob_book.specs.Acts.{ActState, Referenced, Reply, act, answer, answer_under, number_of, take_on}
 use Rattle.ob_store.specs.Acting.{under}
-use Rattle.ob_store.specs.Keepers.{Ghosts, KeeperValue, Ties}
+use Rattle.ob_store.specs.Keepers.{Ghosts, Ties}
+use Rattle.ob_store.specs.declared.keeper.Keeper.{Keeper}
 use Rattle.ob_csv.specs.Rows.{Fields, rows_of}
 use Rattle.ob_import.specs.Imports.{ImportsBody, after_header}
 use Rattle.ob_import.specs.Reports.{Breaks, HasCause, Imported, import_as}
@@ -31,30 +32,30 @@ stays_by b x (Some n) why r e h = refl
 pub act_stays : (b : ActState) (x : Referenced) (r : Refusal) → answer b x ≡ Err r → act b x ≡ b
 act_stays b x r h = stays_by b x (number_of b x.reference) (refusal b.book x.command) r refl h
 
-module _ {S : Type 0} (g : Ghosts S) where
+module _ {S T : Type 0} {g : Ghosts S} where
   -- a reply over a state that stays
-  pub gives_made : (new : KeeperValue S) (b : ActState) (a : Answer) (closes : Bool) (result : Result ReplyText Fault)
-      → Makes a closes result → Ties g new b → Gives g new b a closes result
+  pub gives_made : (new : Keeper S T g) (b : ActState) (a : Answer) (closes : Bool) (result : Result ReplyText Fault)
+      → Makes a closes result → Ties new b → Gives new b a closes result
   gives_made new b a closes (Ok text) made ties = (made, ties)
   gives_made new b a closes (Err fault) made ties = rw made ties
 
   -- the reply to an accepted command
-  pub gives_accepted : (new : KeeperValue S) (b : ActState) (x : Referenced) (r : Reply) (closes : Bool) (result : Result ReplyText Fault)
-      → answer b x ≡ Ok r → Makes (outcome (Ok r)) closes result → Ties g new (act b x) → ActGives g new b x closes result
+  pub gives_accepted : (new : Keeper S T g) (b : ActState) (x : Referenced) (r : Reply) (closes : Bool) (result : Result ReplyText Fault)
+      → answer b x ≡ Ok r → Makes (outcome (Ok r)) closes result → Ties new (act b x) → ActGives new b x closes result
   gives_accepted new b x r closes (Ok text) e made ties = (made ∙ ap (λ (o : Result Reply Refusal). answer_text (outcome o) closes) (sym e), ties)
   gives_accepted new b x r closes (Err fault) e made ties = rw made (inr ties)
 
   -- the reply to a refused one
-  pub gives_refused : (new : KeeperValue S) (b : ActState) (x : Referenced) (r : Refusal) (closes : Bool) (result : Result ReplyText Fault)
-      → answer b x ≡ Err r → Makes (refused r) closes result → Ties g new b → ActGives g new b x closes result
+  pub gives_refused : (new : Keeper S T g) (b : ActState) (x : Referenced) (r : Refusal) (closes : Bool) (result : Result ReplyText Fault)
+      → answer b x ≡ Err r → Makes (refused r) closes result → Ties new b → ActGives new b x closes result
   gives_refused new b x r closes (Ok text) e made ties =
-      (made ∙ ap (λ (o : Result Reply Refusal). answer_text (outcome o) closes) (sym e), subst (λ s. Ties g new s) (sym (act_stays b x r e)) ties)
+      (made ∙ ap (λ (o : Result Reply Refusal). answer_text (outcome o) closes) (sym e), subst (λ s. Ties new s) (sym (act_stays b x r e)) ties)
   gives_refused new b x r closes (Err fault) e made ties = rw made (inl ties)
 
   -- a body that says a command
-  pub answered_said : (new : KeeperValue S) (b : ActState) (said : List ℕ × Command) (body : List ℕ) (closes : Bool) (result : Result ReplyText Fault)
-      → IsJsonCommand body (Ok said) → ActGives g new b (under said.0 said.1) closes result
-      → RouteAnswered g new b methods.Post (Some routes.Commands) body closes result
+  pub answered_said : (new : Keeper S T g) (b : ActState) (said : List ℕ × Command) (body : List ℕ) (closes : Bool) (result : Result ReplyText Fault)
+      → IsJsonCommand body (Ok said) → ActGives new b (under said.0 said.1) closes result
+      → RouteAnswered new b methods.Post (Some routes.Commands) body closes result
   answered_said new b said body closes (Ok text) says h =
       (outcome (answer b (under said.0 said.1)), act b (under said.0 said.1), (Ok said, says, (refl, refl)), h.0, h.1)
   answered_said new b said body closes (Err OutOfMemory) says (inl ties) = inl ties
@@ -65,15 +66,15 @@ module _ {S : Type 0} (g : Ghosts S) where
   answered_said new b said body closes (Err Output) says h = absurd h
 
   -- a body that says none
-  pub answered_unsaid : (new : KeeperValue S) (b : ActState) (r : Refusal) (body : List ℕ) (closes : Bool) (result : Result ReplyText Fault)
-      → IsJsonCommand body (Err r) → Makes (refused r) closes result → Ties g new b
-      → RouteAnswered g new b methods.Post (Some routes.Commands) body closes result
+  pub answered_unsaid : (new : Keeper S T g) (b : ActState) (r : Refusal) (body : List ℕ) (closes : Bool) (result : Result ReplyText Fault)
+      → IsJsonCommand body (Err r) → Makes (refused r) closes result → Ties new b
+      → RouteAnswered new b methods.Post (Some routes.Commands) body closes result
   answered_unsaid new b r body closes (Ok text) says made ties = (refused r, b, (Err r, says, (refl, refl)), made, ties)
   answered_unsaid new b r body closes (Err fault) says made ties = rw made (inl ties)
 
   -- a GET of a route
-  pub answered_got : (new : KeeperValue S) (b : ActState) (route : Route) (body : List ℕ) (closes : Bool) (result : Result ReplyText Fault)
-      → Gives g new b (got b route) closes result → RouteAnswered g new b methods.Get (Some route) body closes result
+  pub answered_got : (new : Keeper S T g) (b : ActState) (route : Route) (body : List ℕ) (closes : Bool) (result : Result ReplyText Fault)
+      → Gives new b (got b route) closes result → RouteAnswered new b methods.Get (Some route) body closes result
   answered_got new b route body closes (Ok text) h = (got b route, b, (refl, refl), h.0, h.1)
   answered_got new b route body closes (Err OutOfMemory) h = h
   answered_got new b route body closes (Err Store) h = h
@@ -82,28 +83,28 @@ module _ {S : Type 0} (g : Ghosts S) where
   answered_got new b route body closes (Err Output) h = absurd h
 
   -- a body that asks for a plan
-  pub answered_planned : (new : KeeperValue S) (b : ActState) (body : List ℕ) (a : Answer) (closes : Bool) (result : Result ReplyText Fault)
-      → IsPlanAnswer b.book body a → Makes a closes result → Ties g new b → RouteAnswered g new b methods.Post (Some routes.Plan) body closes result
+  pub answered_planned : (new : Keeper S T g) (b : ActState) (body : List ℕ) (a : Answer) (closes : Bool) (result : Result ReplyText Fault)
+      → IsPlanAnswer b.book body a → Makes a closes result → Ties new b → RouteAnswered new b methods.Post (Some routes.Plan) body closes result
   answered_planned new b body a closes (Ok text) is made ties = (a, b, (is, refl), made, ties)
   answered_planned new b body a closes (Err fault) is made ties = rw made ties
 
   -- an import that was reported
-  pub answered_report : (new : KeeperValue S) (b : ActState) (body : List ℕ) (report : ImportReport) (closes : Bool) (result : Result ReplyText Fault)
-      → Imported g new b (Some (rows_of body)) (Ok report) → Makes (report_answer report.added report.again report.stopped) closes result
-      → RouteAnswered g new b methods.Post (Some routes.Import) body closes result
+  pub answered_report : (new : Keeper S T g) (b : ActState) (body : List ℕ) (report : ImportReport) (closes : Bool) (result : Result ReplyText Fault)
+      → Imported new b (Some (rows_of body)) (Ok report) → Makes (report_answer report.added report.again report.stopped) closes result
+      → RouteAnswered new b methods.Post (Some routes.Import) body closes result
   answered_report new b body report closes (Ok text) (rows, same, (c, imports, (ties, is))) made =
       (reported (import_as c report), c, (import_as c report, subst (λ (r : List Fields). ImportsBody b (after_header r) (import_as c report)) same imports, refl, refl), made, ties)
   answered_report new b body report closes (Err fault) (rows, same, (c, imports, (ties, is))) made =
       rw made (inr (import_as c report, subst (λ (r : List Fields). ImportsBody b (after_header r) (import_as c report)) same imports, ties))
 
   -- an import that a fault stopped
-  pub answered_stop : (new : KeeperValue S) (b : ActState) (body : List ℕ) (fault : Fault) (added again : ℕ) (closes : Bool) → HasCause fault ⊥
-      → (rows : List Fields) → rows ≡ rows_of body → Breaks g new b (unwrap_or (after_header rows) []) fault added again
-      → RouteAnswered g new b methods.Post (Some routes.Import) body closes (Err fault)
+  pub answered_stop : (new : Keeper S T g) (b : ActState) (body : List ℕ) (fault : Fault) (added again : ℕ) (closes : Bool) → HasCause fault ⊥
+      → (rows : List Fields) → rows ≡ rows_of body → Breaks new b (unwrap_or (after_header rows) []) fault added again
+      → RouteAnswered new b methods.Post (Some routes.Import) body closes (Err fault)
   answered_stop new b body OutOfMemory added again closes cause rows same h =
-      inl (added, again, subst (λ (r : List Fields). Breaks g new b (unwrap_or (after_header r) []) OutOfMemory added again) same h)
+      inl (added, again, subst (λ (r : List Fields). Breaks new b (unwrap_or (after_header r) []) OutOfMemory added again) same h)
   answered_stop new b body Store added again closes cause rows same h =
-      (added, again, subst (λ (r : List Fields). Breaks g new b (unwrap_or (after_header r) []) Store added again) same h)
+      (added, again, subst (λ (r : List Fields). Breaks new b (unwrap_or (after_header r) []) Store added again) same h)
   answered_stop new b body Reopen added again closes cause rows same h = absurd cause
   answered_stop new b body Input added again closes cause rows same h = absurd cause
   answered_stop new b body Output added again closes cause rows same h = absurd cause

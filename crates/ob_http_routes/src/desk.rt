@@ -1,7 +1,7 @@
 //! Answers one request.
 ghost use Rattle.std.specs.Prelude.{◌≡◌, ◌↔◌, Some, None, Err, IsSome, IfSome, IfErr};
 ghost use Rattle.ob_store.specs.Calls.{IfHeld, TellsFaults, WasClean};
-ghost use Rattle.ob_store.specs.Keepers.{OnlySearches};
+ghost use Rattle.ob_store.specs.Keepers.{OnlySearches, book_of};
 ghost use Rattle.ob_http_requests.specs.Reading.{message_of};
 ghost use Rattle.ob_http_routes.specs.Answers.{AsksPlan, bookless, bookless_at, got};
 ghost use Rattle.ob_http_routes.specs.Answering.{Answered, Gives, IsAnswerFault, IsReplyOf, RouteAnswered, Serves, Unopened};
@@ -36,18 +36,18 @@ pub fn answer<S: Alter, T: Timeline>(
 ) -> Result<ReplyText, Fault>
     ensures constant { IfSome (bookless (message_of request.now)) (λ a. IsReplyOf a closes result
         × (keeper.new ≡ keeper.old)) }
-    ensures unopened { keeper.old.book ≡ None → (keeper.new ≡ keeper.old)
+    ensures unopened { book_of keeper.old ≡ None → (keeper.new ≡ keeper.old)
         × Unopened (bookless (message_of request.now)) closes result }
-    ensures faults { IsSome keeper.old.book → IfErr result IsAnswerFault }
-    ensures dropped { IsSome keeper.old.book → (keeper.new.book ≡ None)
+    ensures faults { IsSome (book_of keeper.old) → IfErr result IsAnswerFault }
+    ensures dropped { IsSome (book_of keeper.old) → (book_of keeper.new ≡ None)
         ↔ (result ≡ Err Fault.Store) }
-    ensures clean { WasClean S.Store keeper.old keeper.new }
-    ensures answered { IfHeld S.Store keeper.old keeper.new
-        (λ b. Answered S.Store keeper.new b (message_of request.now) closes result) }
+    ensures clean { WasClean keeper.old keeper.new }
+    ensures answered { IfHeld keeper.old keeper.new (λ b. Answered keeper.new b
+        (message_of request.now) closes result) }
     ensures plan { AsksPlan (message_of request.now) → OnlySearches keeper.old keeper.new }
     // no fault of the store is forgotten, row numbers and the step limit stay, and a store fault has
     // a cause
-    ensures tells { TellsFaults S.Store keeper.old keeper.new (result ≡ Err Fault.Store) }
+    ensures tells { TellsFaults keeper.old keeper.new (result ≡ Err Fault.Store) }
 {
     let route = routes.route_of(request.path());
     answer_route(alloc, keeper, request.method, route, &request.body, closes)
@@ -62,9 +62,8 @@ fn answer_route<S: Alter, T: Timeline>(
     body: &[u8],
     closes: bool,
 ) -> Result<ReplyText, Fault>
-    ensures serves { Serves S.Store keeper.old keeper.new
-        (λ b. RouteAnswered S.Store keeper.new b method route body.now closes result)
-        (bookless_at method route) closes result }
+    ensures serves { Serves keeper.old keeper.new (λ b. RouteAnswered keeper.new b method route
+        body.now closes result) (bookless_at method route) closes result }
     ensures plan { method ≡ Method.Post → route ≡ Some Route.Plan
         → OnlySearches keeper.old keeper.new }
 {
@@ -84,8 +83,7 @@ fn answer_get<S: Alter, T: Timeline>(
     route: Route,
     closes: bool,
 ) -> Result<ReplyText, Fault>
-    ensures { Serves S.Store keeper.old keeper.new
-        (λ b. Gives S.Store keeper.new b (got b route) closes result)
+    ensures { Serves keeper.old keeper.new (λ b. Gives keeper.new b (got b route) closes result)
         (bookless_at Method.Get (Some route)) closes result }
 {
     match route {
@@ -105,9 +103,8 @@ fn answer_post<S: Alter, T: Timeline>(
     body: &[u8],
     closes: bool,
 ) -> Result<ReplyText, Fault>
-    ensures serves { Serves S.Store keeper.old keeper.new
-        (λ b. RouteAnswered S.Store keeper.new b Method.Post (Some route) body.now closes result)
-        (bookless_at Method.Post (Some route)) closes result }
+    ensures serves { Serves keeper.old keeper.new (λ b. RouteAnswered keeper.new b Method.Post
+        (Some route) body.now closes result) (bookless_at Method.Post (Some route)) closes result }
     ensures plan { route ≡ Route.Plan → OnlySearches keeper.old keeper.new }
 {
     match route {

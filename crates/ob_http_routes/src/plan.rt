@@ -4,7 +4,7 @@ ghost use Rattle.ob_base.specs.declared.stop.Fault.{Fault as AFault};
 ghost use Rattle.ob_base.specs.declared.stop.Refusal.{Refusal as ARefusal};
 ghost use Rattle.ob_base.specs.declared.stop.Stop.{Stop as AStop};
 ghost use Rattle.ob_state.specs.State.{BookState};
-ghost use Rattle.ob_store.specs.Keepers.{OnlySearches};
+ghost use Rattle.ob_store.specs.Keepers.{OnlySearches, book_of};
 ghost use Rattle.ob_http_requests.specs.declared.framing.Method.{Method};
 ghost use Rattle.ob_http_routes.specs.Answers.{IsPlanAnswer, found as found_of, refused as refused_of};
 ghost use Rattle.ob_http_routes.specs.Answering.{RouteAnswered, Serves};
@@ -24,11 +24,11 @@ fn plan<S: Alter, T: Timeline>(
     body: &[u8],
 ) -> Result<Vec<u8>, Stop>
     ensures same { OnlySearches keeper.old keeper.new }
-    ensures text { (b : BookState) → keeper.old.book ≡ Some b → IfOk result (λ text.
-        IsPlanAnswer b body.now (found_of MediaType.Json (Some text.items))) }
-    ensures refused { (b : BookState) → keeper.old.book ≡ Some b → (refusal : ARefusal)
+    ensures text { (b : BookState) → book_of keeper.old ≡ Some b
+        → IfOk result (λ text. IsPlanAnswer b body.now (found_of MediaType.Json (Some text.items))) }
+    ensures refused { (b : BookState) → book_of keeper.old ≡ Some b → (refusal : ARefusal)
         → result ≡ Err (AStop.Refused refusal) → IsPlanAnswer b body.now (refused_of refusal) }
-    ensures err { IsSome keeper.old.book → (fault : AFault) → result ≡ Err (AStop.Fault fault)
+    ensures err { IsSome (book_of keeper.old) → (fault : AFault) → result ≡ Err (AStop.Fault fault)
         → fault ≡ AFault.OutOfMemory }
 {
     let command = read_plan(alloc, body)?;
@@ -43,9 +43,8 @@ pub(crate) fn post_plan<S: Alter, T: Timeline>(
     body: &[u8],
     closes: bool,
 ) -> Result<ReplyText, Fault>
-    ensures serves { Serves S.Store keeper.old keeper.new
-        (λ b. RouteAnswered S.Store keeper.new b Method.Post (Some Route.Plan) body.now closes
-        result) None closes result }
+    ensures serves { Serves keeper.old keeper.new (λ b. RouteAnswered keeper.new b Method.Post
+        (Some Route.Plan) body.now closes result) None closes result }
     ensures same { OnlySearches keeper.old keeper.new }
 {
     if keeper.book().is_none() {

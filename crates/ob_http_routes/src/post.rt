@@ -1,6 +1,7 @@
 //! Applies commands and imports, and replies to them.
 ghost use Rattle.std.specs.Prelude.{Some, None, IsSome};
 ghost use Rattle.ob_store.specs.Acting.{under};
+ghost use Rattle.ob_store.specs.Keepers.{book_of};
 ghost use Rattle.ob_http_routes.specs.Answering.{ActGives, RouteAnswered, Serves};
 ghost use Rattle.ob_http_requests.specs.declared.framing.Method.{Method};
 ghost use Rattle.ob_http_routes.specs.declared.routes.Route.{Route};
@@ -22,10 +23,9 @@ fn act<S: Alter, T: Timeline>(
     command: Command,
     closes: bool,
 ) -> Result<ReplyText, Fault>
-    requires { IsSome keeper.old.book }
-    ensures { Serves S.Store keeper.old keeper.new
-        (λ b. ActGives S.Store keeper.new b (under reference command) closes result) None closes
-        result }
+    requires { IsSome (book_of keeper.old) }
+    ensures { Serves keeper.old keeper.new (λ b. ActGives keeper.new b
+        (under reference command) closes result) None closes result }
 {
     match keeper.act(reference, command) {
         Ok(reply) => accepted_reply(alloc, &reply, closes),
@@ -41,9 +41,8 @@ pub(crate) fn post_command<S: Alter, T: Timeline>(
     body: &[u8],
     closes: bool,
 ) -> Result<ReplyText, Fault>
-    ensures { Serves S.Store keeper.old keeper.new
-        (λ b. RouteAnswered S.Store keeper.new b Method.Post (Some Route.Commands) body.now closes
-        result) None closes result }
+    ensures { Serves keeper.old keeper.new (λ b. RouteAnswered keeper.new b Method.Post
+        (Some Route.Commands) body.now closes result) None closes result }
 {
     if keeper.book().is_none() {
         return Err(Fault::Reopen);
@@ -63,9 +62,8 @@ pub(crate) fn post_import<S: Alter, T: Timeline>(
     body: &[u8],
     closes: bool,
 ) -> Result<ReplyText, Fault>
-    ensures { Serves S.Store keeper.old keeper.new
-        (λ b. RouteAnswered S.Store keeper.new b Method.Post (Some Route.Import) body.now closes
-        result) None closes result }
+    ensures { Serves keeper.old keeper.new (λ b. RouteAnswered keeper.new b Method.Post
+        (Some Route.Import) body.now closes result) None closes result }
 {
     if keeper.book().is_none() {
         return Err(Fault::Reopen);

@@ -91,8 +91,8 @@ pub(crate) fn show_view<S: Alter, T: Timeline>(
     view: View,
     closes: bool,
 ) -> Result<ReplyText, Fault>
-    ensures { Serves S.Store keeper.now keeper.now
-        (λ b. Gives S.Store keeper.now b (got b (Route.View view)) closes result) None closes result }
+    ensures { Serves keeper.now keeper.now (λ b. Gives keeper.now b
+        (got b (Route.View view)) closes result) None closes result }
 {
     match keeper.book() {
         Some(book) => show(alloc, book, view, closes),
@@ -108,9 +108,8 @@ pub(crate) fn show_command<S: Alter, T: Timeline>(
     no: u32,
     closes: bool,
 ) -> Result<ReplyText, Fault>
-    ensures { Serves S.Store keeper.old keeper.new
-        (λ b. Gives S.Store keeper.new b (got b (Route.Command «no»)) closes result) None closes
-        result }
+    ensures { Serves keeper.old keeper.new (λ b. Gives keeper.new b
+        (got b (Route.Command «no»)) closes result) None closes result }
 {
     match keeper.reply_of(no) {
         Ok(Some(reply)) => accepted_reply(alloc, &reply, closes),

@@ -16,10 +16,11 @@ use Rattle.ob_csv.specs.WholeRows.{WholeRowsStand, whole_rows}
 use Rattle.ob_csv.specs.Rows.{Fields, TakesRow, rows_of}
 use Rattle.ob_command.specs.Fields.{IsRow}
 use Rattle.ob_book.specs.Acts.{ActState, Referenced, Reply, act, acts, answer, is_accepted, take_on}
-use Rattle.ob_store.specs.Acting.{Acted, IsActStop}
-use Rattle.ob_store.specs.Calls.{IfHeld, IfStored, TellsFaults, WasClean}
-use Rattle.ob_store.specs.Keepers.{Ghosts, Holds, KeeperValue, StoresEither, Ties}
+use Rattle.ob_store.specs.Acting.{IsActStop}
+use Rattle.ob_store.specs.Calls.{Acted, IfHeld, IfStored, TellsFaults, WasClean}
+use Rattle.ob_store.specs.Keepers.{Ghosts, Holds, StoresEither, Ties, book_of}
 use Rattle.ob_store.proofs.Faults.{tells_as, tells_nothing, tells_then}
+use Rattle.ob_store.specs.declared.keeper.Keeper.{Keeper}
 use Rattle.ob_state.specs.State.{BookState}
 use Rattle.ob_record.specs.Reached.{ReachedCounts}
 use Rattle.ob_import.specs.Acting.{Adds, AddsRow}
@@ -180,65 +181,106 @@ refusal_not_store r e = cc
 pub same_stop : {X Y : Type 0} (stop other : Stop) → ◌≡◌ {A = Result X Stop} (Err stop) (Err other) → ◌≡◌ {A = Result Y Stop} (Err stop) (Err other)
 same_stop stop other e = let same : stop ≡ other = cc in ap Err same
 
-module _ {S : Type 0} (g : Ghosts S) where
+grows : (c : ActState) (a : Referenced) (before after : ℕ) → before ≡ length c.accepted → after ≡ length (act c a).accepted → nat_lt before after ≡ is_accepted c a
+grows c a before after e f = elim (is_accepted c a) as (λ t. length (act c a).accepted ≡ length c.accepted + cond t 1 0 → nat_lt before after ≡ t) [
+  | true ↦ λ h. lt-ltb before after (omega (arith, e, f, h))
+  | false ↦ λ h. le-ltb before after (omega (arith, e, f, h))
+] (act_grows c a)
+
+-- the rows of a text that begin with a row that was taken, if one was
+begins_with : (left after : Option (List Fields)) (found : Bool) (row : Fields) → TakesRow left after found row → (rows : List Fields) × AreRows left (cond found (row ∷ rows) [])
+begins_with None after found row takes = ([], tt)
+begins_with (Some l) None true row takes = absurd takes
+begins_with (Some l) (Some rest) true row takes = (rest, sym takes)
+begins_with (Some l) after false row takes = ([], sym takes)
+
+-- the rows after a row, and that row before them
+row_before : (left after : Option (List Fields)) (row : Fields) (rows : List Fields) → TakesRow left after true row → AreRows after rows → AreRows left (row ∷ rows)
+row_before None after row rows takes are = tt
+row_before (Some l) None row rows takes are = absurd takes
+row_before (Some l) (Some rest) row rows takes are = ap (λ x. row ∷ x) are ∙ sym takes
+
+-- an import that stopped within the first rows stops there among more of them
+ends_more : (c : ActState) (number : ℕ) (later more : List Fields) (stopped : Option (ℕ × Refusal)) → stopped ≢ None → EndsAt c number later stopped → EndsAt c number (later ++ more) stopped
+ends_more c number [] more stopped goes ends = absurd (goes ends)
+ends_more c number (row ∷ later) more stopped goes ends = ends
+
+rows_more : (b : ActState) (rows more : List Fields) (i : Import) → i.stopped ≢ None → ImportsRows b rows i → ImportsRows b (rows ++ more) i
+rows_more b rows more i goes (later, (done, split, taken), ends) =
+    (later ++ more, (done, ap (λ l. l ++ more) split ∙ append_assoc done later more, taken), ends_more i.state (i.added + i.again + 1) later more i.stopped goes ends)
+
+-- the rows after the header are the first of those after it in a longer text
+body_more : (rows more : List Fields) → (rest : List Fields) × (unwrap_or (after_header (rows ++ more)) [] ≡ unwrap_or (after_header rows) [] ++ rest)
+body_more [] more = (unwrap_or (after_header more) [], refl)
+body_more (header ∷ rows) more =
+    elim (is_header header) as (λ t. (rest : List Fields) × (unwrap_or (if t then Some (rows ++ more) else None) [] ≡ unwrap_or (if t then Some rows else None) [] ++ rest)) [
+      | true ↦ (more, refl)
+      | false ↦ ([], refl)
+    ]
+
+next_more : (later more : List Fields) (a : Referenced) → IsNext later a → IsNext (later ++ more) a
+next_more [] more a next = absurd next
+next_more (row ∷ later) more a next = next
+
+module _ {S T : Type 0} {g : Ghosts S} where
   -- a row that was answered said a command
-  taken_row : (new : KeeperValue S) (c : ActState) (row : Fields) (is_new : Bool) → AddsRow g new c row (Ok is_new)
-      → (a : Referenced) × Says row a × (is_ok (answer c a) ≡ true) × (is_new ≡ is_accepted c a) × Holds g new (act c a)
+  taken_row : (new : Keeper S T g) (c : ActState) (row : Fields) (is_new : Bool) → AddsRow new c row (Ok is_new)
+      → (a : Referenced) × Says row a × (is_ok (answer c a) ≡ true) × (is_new ≡ is_accepted c a) × Holds new (act c a)
   taken_row new c row is_new (inl (a, says, made)) = (a, says, made.0, made.1, made.2)
   taken_row new c row is_new (inr (r, is, err, holds)) = absurd (true≢false (ap is_ok err))
 
   -- a row that was refused has its refusal
-  refused_row : (new : KeeperValue S) (c : ActState) (row : Fields) (refusal : Refusal) → AddsRow g new c row (Err (stops.Refused refusal)) → IsRefused c row refusal × Holds g new c
+  refused_row : (new : Keeper S T g) (c : ActState) (row : Fields) (refusal : Refusal) → AddsRow new c row (Err (stops.Refused refusal)) → IsRefused c row refusal × Holds new c
   refused_row new c row refusal (inl (a, says, made)) = (inr (a, says, made.0), made.1)
   refused_row new c row refusal (inr (r, is, err, holds)) = let same : r ≡ refusal = cc in (inl (subst (λ x. IsRow row (Err x)) same is), holds)
 
   -- memory was refused at a row
-  starved_row : (new : KeeperValue S) (c : ActState) (row : Fields) → AddsRow g new c row (Err (stops.Fault faults.OutOfMemory)) → Holds g new c
+  starved_row : (new : Keeper S T g) (c : ActState) (row : Fields) → AddsRow new c row (Err (stops.Fault faults.OutOfMemory)) → Holds new c
   starved_row new c row (inl (a, says, made)) = made
   starved_row new c row (inr (r, is, err, holds)) = holds
 
   -- the store failed at a row
-  lost_row : (new : KeeperValue S) (c : ActState) (row : Fields) → AddsRow g new c row (Err (stops.Fault faults.Store))
-      → (a : Referenced) × Says row a × StoresEither g new c (act c a) × (new.book ≡ None)
+  lost_row : (new : Keeper S T g) (c : ActState) (row : Fields) → AddsRow new c row (Err (stops.Fault faults.Store))
+      → (a : Referenced) × Says row a × StoresEither new c (act c a) × (book_of new ≡ None)
   lost_row new c row (inl (a, says, made)) = (a, says, made.0, made.1)
   lost_row new c row (inr (r, is, err, holds)) = absurd (fault_not_refused faults.Store r err)
 
   -- the rows before the one of this number were taken, and the keeper holds what they left
-  pub record SoFar (old now : KeeperValue S) (known left : Option (List Fields)) (added again number : ℕ) : Type 0 where
-    pub clean : WasClean g old now
-    pub is_there : IsSome now.book
+  pub record SoFar (old now : Keeper S T g) (known left : Option (List Fields)) (added again number : ℕ) : Type 0 where
+    pub clean : WasClean old now
+    pub is_there : IsSome (book_of now)
     pub next : added + again + 1 ≡ number
-    pub begun : IfStored g old now (λ b. (c : ActState) × (done : List Fields) × SplitAs known left done × Taken b c done added again × Holds g now c)
-    pub tells : TellsFaults g old now ⊥
+    pub begun : IfStored old now (λ b. (c : ActState) × (done : List Fields) × SplitAs known left done × Taken b c done added again × Holds now c)
+    pub tells : TellsFaults old now ⊥
 
-  pub so_far_none : (old : KeeperValue S) (known : Option (List Fields)) → IsSome old.book → SoFar old old known known 0 0 1
+  pub so_far_none : (old : Keeper S T g) (known : Option (List Fields)) → IsSome (book_of old) → SoFar old old known known 0 0 1
   so_far_none old known is = record {
     clean = λ clean. clean;
     is_there = is;
     next = refl;
     begun = λ clean b ties. (b, [], split_init known, taken_none b, (ties, is));
-    tells = tells_nothing g old old ⊥ refl (λ e. e);
+    tells = tells_nothing old old ⊥ refl (λ e. e);
   }
 
-  module _ (old now : KeeperValue S) (known left : Option (List Fields)) (added again number : ℕ) (it : SoFar old now known left added again number) where
+  module _ (old now : Keeper S T g) (known left : Option (List Fields)) (added again number : ℕ) (it : SoFar old now known left added again number) where
     -- the book that stands is that of some commands more
-    stands_more : IfHeld g old now (λ b. (done : List Referenced) × Ties g now (acts b done) × IsSome now.book)
-    stands_more clean b ties some = let was = it.begun clean b ties in (was.3.commands, subst (Ties g now) was.3.state was.4.0, was.4.1)
+    stands_more : IfHeld old now (λ b. (done : List Referenced) × Ties now (acts b done) × IsSome (book_of now))
+    stands_more clean b ties some = let was = it.begun clean b ties in (was.3.commands, subst (Ties now) was.3.state was.4.0, was.4.1)
 
     -- the import ends here, and no fault of the store is reported
-    pub ended_tells : (F : Type 0) → (F → ⊥) → TellsFaults g old now F
-    ended_tells F never = tells_as g old now ⊥ F never it.tells
+    pub ended_tells : (F : Type 0) → (F → ⊥) → TellsFaults old now F
+    ended_tells F never = tells_as old now ⊥ F never it.tells
 
     -- it ends after the next row
-    pub then_tells : (new : KeeperValue S) (G F : Type 0) → (F → G) → TellsFaults g now new G → TellsFaults g old new F
-    then_tells new G F reads tells = tells_as g old new G F reads (tells_then g old now new ⊥ G it.tells stands_more tells)
+    pub then_tells : (new : Keeper S T g) (G F : Type 0) → (F → G) → TellsFaults now new G → TellsFaults old new F
+    then_tells new G F reads tells = tells_as old new G F reads (tells_then old now new ⊥ G it.tells stands_more tells)
 
-    module _ (new : KeeperValue S) (after : Option (List Fields)) (row : Fields) (takes : TakesRow left after true row) (within : number ≤ 1_000_000)
-        (clean : WasClean g now new) where
+    module _ (new : Keeper S T g) (after : Option (List Fields)) (row : Fields) (takes : TakesRow left after true row) (within : number ≤ 1_000_000)
+        (clean : WasClean now new) where
       -- a row that was taken
-      pub so_far_more : (is_new : Bool) (added2 again2 : ℕ) → (new.book ≡ None) ↔ (◌≡◌ {A = Result Bool Stop} (Ok is_new) (Err (stops.Fault faults.Store)))
-          → TellsFaults g now new (◌≡◌ {A = Result Bool Stop} (Ok is_new) (Err (stops.Fault faults.Store)))
-          → IfStored g now new (λ b. AddsRow g new b row (Ok is_new))
+      pub so_far_more : (is_new : Bool) (added2 again2 : ℕ) → (book_of new ≡ None) ↔ (◌≡◌ {A = Result Bool Stop} (Ok is_new) (Err (stops.Fault faults.Store)))
+          → TellsFaults now new (◌≡◌ {A = Result Bool Stop} (Ok is_new) (Err (stops.Fault faults.Store)))
+          → IfStored now new (λ b. AddsRow new b row (Ok is_new))
           → added2 ≡ added + cond is_new 1 0 → again2 ≡ again + cond is_new 0 1 → SoFar old new known after added2 again2 (number + 1)
       so_far_more is_new added2 again2 dropped tells acted more other =
           let both : added2 + again2 ≡ added + again + 1 = elim is_new as (λ t. added2 ≡ added + cond t 1 0 → again2 ≡ again + cond t 0 1 → added2 + again2 ≡ added + again + 1) [
@@ -247,7 +289,7 @@ module _ {S : Type 0} (g : Ghosts S) where
           ] more other in
           record {
             clean = λ c. it.clean (clean c);
-            is_there = elim new.book as (λ o. (o ≡ None → ⊥) → IsSome o) [
+            is_there = elim (book_of new) as (λ o. (o ≡ None → ⊥) → IsSome o) [
               | None ↦ λ d. absurd (d refl)
               | Some s ↦ λ d. refl
             ] (λ none. fault_there is_new (stops.Fault faults.Store) (dropped.0 none));
@@ -266,8 +308,8 @@ module _ {S : Type 0} (g : Ghosts S) where
           }
 
       -- the row stops the import
-      stops_left : (b c : ActState) (done : List Fields) (refusal : Refusal) (rep : ImportReport) → SplitAs known left done → Taken b c done added again → Stops c number row refusal → Holds g new c
-          → rep.added ≡ added → rep.again ≡ again → rep.stopped ≡ Some (number, refusal) → LeavesOf g (λ rows. Some rows) new b known (Ok rep)
+      stops_left : (b c : ActState) (done : List Fields) (refusal : Refusal) (rep : ImportReport) → SplitAs known left done → Taken b c done added again → Stops c number row refusal → Holds new c
+          → rep.added ≡ added → rep.again ≡ again → rep.stopped ≡ Some (number, refusal) → LeavesOf (λ rows. Some rows) new b known (Ok rep)
       stops_left b c done refusal rep split taken why holds is_added is_again is_stopped =
           let later : List Fields = row ∷ unwrap_or after [] in
           let at : rep.added + rep.again + 1 ≡ number = omega (arith, it.next, is_added, is_again) in (
@@ -284,9 +326,9 @@ module _ {S : Type 0} (g : Ghosts S) where
             ),
           )
 
-      pub runs_refused : (refusal : Refusal) (whole : Bool) (rep : ImportReport) → (new.book ≡ None) ↔ (◌≡◌ {A = Result Bool Stop} (Err (stops.Refused refusal)) (Err (stops.Fault faults.Store)))
-          → IfStored g now new (λ b. AddsRow g new b row (Err (stops.Refused refusal)))
-          → rep.added ≡ added → rep.again ≡ again → rep.stopped ≡ Some (number, refusal) → Runs g (λ rows. Some rows) old new known whole (Ok rep)
+      pub runs_refused : (refusal : Refusal) (whole : Bool) (rep : ImportReport) → (book_of new ≡ None) ↔ (◌≡◌ {A = Result Bool Stop} (Err (stops.Refused refusal)) (Err (stops.Fault faults.Store)))
+          → IfStored now new (λ b. AddsRow new b row (Err (stops.Refused refusal)))
+          → rep.added ≡ added → rep.again ≡ again → rep.stopped ≡ Some (number, refusal) → Runs (λ rows. Some rows) old new known whole (Ok rep)
       runs_refused refusal whole rep dropped acted is_added is_again is_stopped = record {
         clean = λ c. it.clean (clean c);
         dropped = (λ none. let e : ◌≡◌ {A = Result Bool Stop} (Err (stops.Refused refusal)) (Err (stops.Fault faults.Store)) = dropped.0 none in cc, λ never. absurd never);
@@ -301,9 +343,9 @@ module _ {S : Type 0} (g : Ghosts S) where
       }
 
       -- the store failed at the row, or memory was refused
-      pub runs_fault : (fault : Fault) (whole : Bool) → IsActStop (stops.Fault fault) → (new.book ≡ None) ↔ (◌≡◌ {A = Result Bool Stop} (Err (stops.Fault fault)) (Err (stops.Fault faults.Store)))
-          → IfStored g now new (λ b. AddsRow g new b row (Err (stops.Fault fault)))
-          → Runs g (λ rows. Some rows) old new known whole (Err (record { fault = fault; added = added; again = again }))
+      pub runs_fault : (fault : Fault) (whole : Bool) → IsActStop (stops.Fault fault) → (book_of new ≡ None) ↔ (◌≡◌ {A = Result Bool Stop} (Err (stops.Fault fault)) (Err (stops.Fault faults.Store)))
+          → IfStored now new (λ b. AddsRow new b row (Err (stops.Fault fault)))
+          → Runs (λ rows. Some rows) old new known whole (Err (record { fault = fault; added = added; again = again }))
       runs_fault faults.OutOfMemory whole may dropped acted = record {
         clean = λ c. it.clean (clean c);
         dropped = (λ none. let e : ◌≡◌ {A = Result Bool Stop} (Err (stops.Fault faults.OutOfMemory)) (Err (stops.Fault faults.Store)) = dropped.0 none in cc, λ e. cc);
@@ -332,31 +374,31 @@ module _ {S : Type 0} (g : Ghosts S) where
       runs_fault faults.Input whole may dropped acted = absurd may
       runs_fault faults.Output whole may dropped acted = absurd may
 
-    module _ (new : KeeperValue S) (after : Option (List Fields)) (row : Fields) (takes : TakesRow left after true row) (within : number ≤ 1_000_000)
-        (clean : WasClean g now new) (stop : Stop)
-        (dropped : (new.book ≡ None) ↔ (◌≡◌ {A = Result Bool Stop} (Err stop) (Err (stops.Fault faults.Store))))
-        (acted : IfStored g now new (λ b. AddsRow g new b row (Err stop))) where
+    module _ (new : Keeper S T g) (after : Option (List Fields)) (row : Fields) (takes : TakesRow left after true row) (within : number ≤ 1_000_000)
+        (clean : WasClean now new) (stop : Stop)
+        (dropped : (book_of new ≡ None) ↔ (◌≡◌ {A = Result Bool Stop} (Err stop) (Err (stops.Fault faults.Store))))
+        (acted : IfStored now new (λ b. AddsRow new b row (Err stop))) where
       pub runs_refused_by : (refusal : Refusal) (whole : Bool) (rep : ImportReport) → stop ≡ stops.Refused refusal
-          → rep.added ≡ added → rep.again ≡ again → rep.stopped ≡ Some (number, refusal) → Runs g (λ rows. Some rows) old new known whole (Ok rep)
+          → rep.added ≡ added → rep.again ≡ again → rep.stopped ≡ Some (number, refusal) → Runs (λ rows. Some rows) old new known whole (Ok rep)
       runs_refused_by refusal whole rep is =
           runs_refused new after row takes within clean refusal whole rep
-          (subst (λ s. (new.book ≡ None) ↔ (◌≡◌ {A = Result Bool Stop} (Err s) (Err (stops.Fault faults.Store)))) is dropped)
-          (λ cl b ties. subst (λ s. AddsRow g new b row (Err s)) is (acted cl b ties))
+          (subst (λ s. (book_of new ≡ None) ↔ (◌≡◌ {A = Result Bool Stop} (Err s) (Err (stops.Fault faults.Store)))) is dropped)
+          (λ cl b ties. subst (λ s. AddsRow new b row (Err s)) is (acted cl b ties))
 
       pub runs_fault_by : (fault : Fault) (whole : Bool) (e : ImportFault) → stop ≡ stops.Fault fault → IsActStop stop → e ≡ record { fault = fault; added = added; again = again }
-          → Runs g (λ rows. Some rows) old new known whole (Err e)
+          → Runs (λ rows. Some rows) old new known whole (Err e)
       runs_fault_by fault whole e is may told =
-          subst (λ f. Runs g (λ rows. Some rows) old new known whole (Err f)) (sym told)
+          subst (λ f. Runs (λ rows. Some rows) old new known whole (Err f)) (sym told)
           (runs_fault new after row takes within clean fault whole (subst IsActStop is may)
-          (subst (λ s. (new.book ≡ None) ↔ (◌≡◌ {A = Result Bool Stop} (Err s) (Err (stops.Fault faults.Store)))) is dropped)
-          (λ cl b ties. subst (λ s. AddsRow g new b row (Err s)) is (acted cl b ties)))
+          (subst (λ s. (book_of new ≡ None) ↔ (◌≡◌ {A = Result Bool Stop} (Err s) (Err (stops.Fault faults.Store)))) is dropped)
+          (λ cl b ties. subst (λ s. AddsRow new b row (Err s)) is (acted cl b ties)))
 
     -- no row is left
     pub runs_none : (after : Option (List Fields)) (row : Fields) (whole : Bool) (rep : ImportReport) → TakesRow left after false row → whole ≡ true
-        → rep.added ≡ added → rep.again ≡ again → rep.stopped ≡ None → Runs g (λ rows. Some rows) old now known whole (Ok rep)
+        → rep.added ≡ added → rep.again ≡ again → rep.stopped ≡ None → Runs (λ rows. Some rows) old now known whole (Ok rep)
     runs_none after row whole rep takes is_whole is_added is_again is_stopped = record {
       clean = it.clean;
-      dropped = (λ none. no_book_there now.book it.is_there none, λ never. absurd never);
+      dropped = (λ none. no_book_there (book_of now) it.is_there none, λ never. absurd never);
       cause = tt;
       ended = λ none. is_whole;
       left = λ cl b ties.
@@ -374,10 +416,10 @@ module _ {S : Type 0} (g : Ghosts S) where
 
     -- there is a row too many
     pub runs_full : (after : Option (List Fields)) (row : Fields) (whole : Bool) (rep : ImportReport) → TakesRow left after true row → number ≡ 1_000_001
-        → rep.added ≡ added → rep.again ≡ again → rep.stopped ≡ Some (1_000_001, Full 1_000_000) → Runs g (λ rows. Some rows) old now known whole (Ok rep)
+        → rep.added ≡ added → rep.again ≡ again → rep.stopped ≡ Some (1_000_001, Full 1_000_000) → Runs (λ rows. Some rows) old now known whole (Ok rep)
     runs_full after row whole rep takes last is_added is_again is_stopped = record {
       clean = it.clean;
-      dropped = (λ none. no_book_there now.book it.is_there none, λ never. absurd never);
+      dropped = (λ none. no_book_there (book_of now) it.is_there none, λ never. absurd never);
       cause = tt;
       ended = λ none. let e : ◌≡◌ {A = Option (ℕ × Refusal)} None (Some (1_000_001, Full 1_000_000)) = sym none ∙ is_stopped in cc;
       left = λ cl b ties.
@@ -402,19 +444,19 @@ module _ {S : Type 0} (g : Ghosts S) where
 
     -- the next row could not be read
     pub runs_unread : (fault : Fault) (whole : Bool) → HasCause fault (whole ≡ false) → fault ≢ faults.Store → (fault ≡ faults.Input → IfSome left (λ l. l ≡ []))
-        → Runs g (λ rows. Some rows) old now known whole (Err (record { fault = fault; added = added; again = again }))
+        → Runs (λ rows. Some rows) old now known whole (Err (record { fault = fault; added = added; again = again }))
     runs_unread fault whole cause other none =
-        let first : IfStored g old now (λ b. (rows : List Fields) × AreRows known rows × HoldsFirst g now b rows added again) = λ cl b ties.
+        let first : IfStored old now (λ b. (rows : List Fields) × AreRows known rows × HoldsFirst now b rows added again) = λ cl b ties.
         let was = it.begun cl b ties in
         let later : List Fields = unwrap_or left [] in
         (was.1 ++ later, are_rows known left was.1 later was.2 (left_itself left), (was.0, later, (was.1, refl, was.3), was.4)) in
         record {
           clean = it.clean;
-          dropped = (λ none. absurd (no_book_there now.book it.is_there none), λ is. absurd (other is));
+          dropped = (λ none. absurd (no_book_there (book_of now) it.is_there none), λ is. absurd (other is));
           cause = cause;
           ended = tt;
           left = λ cl b ties. elim fault as (λ f. HasCause f (whole ≡ false) → f ≢ faults.Store
-              → (rows : List Fields) × AreRows known rows × HoldsFirst g now b rows added again → LeavesOf g (λ rows. Some rows) now b known (Err (record { fault = f; added = added; again = again }))) [
+              → (rows : List Fields) × AreRows known rows × HoldsFirst now b rows added again → LeavesOf (λ rows. Some rows) now b known (Err (record { fault = f; added = added; again = again }))) [
                 | faults.OutOfMemory ↦ λ h o it. it
                 | faults.Input ↦ λ h o it. it
                 | faults.Store ↦ λ h o it. absurd (o refl)
@@ -427,35 +469,29 @@ module _ {S : Type 0} (g : Ghosts S) where
         }
 
     pub runs_unread_by : (fault : Fault) (whole : Bool) (e : ImportFault) → HasCause fault (whole ≡ false) → fault ≢ faults.Store → (fault ≡ faults.Input → IfSome left (λ l. l ≡ []))
-        → e ≡ record { fault = fault; added = added; again = again } → Runs g (λ rows. Some rows) old now known whole (Err e)
+        → e ≡ record { fault = fault; added = added; again = again } → Runs (λ rows. Some rows) old now known whole (Err e)
     runs_unread_by fault whole e cause other none told =
-        subst (λ f. Runs g (λ rows. Some rows) old now known whole (Err f)) (sym told) (runs_unread fault whole cause other none)
+        subst (λ f. Runs (λ rows. Some rows) old now known whole (Err f)) (sym told) (runs_unread fault whole cause other none)
 
   -- ---- one command
 
   -- a keeper's book counts the commands of the state that it is tied to
-  counted : (k : KeeperValue S) (b : ActState) (n : ℕ) → ReachedCounts → Ties g k b → IsSome k.book → IfSome k.book (λ s. n ≡ s.accepted) → n ≡ length b.accepted
+  counted : (k : Keeper S T g) (b : ActState) (n : ℕ) → ReachedCounts → Ties k b → IsSome (book_of k) → IfSome (book_of k) (λ s. n ≡ s.accepted) → n ≡ length b.accepted
   counted k b n law ties is has =
-      elim k.book as (λ o. IsSome o → IfSome o (λ s. n ≡ s.accepted) → IfSome o (λ s. s ≡ b.book) → n ≡ length b.accepted) [
+      elim (book_of k) as (λ o. IsSome o → IfSome o (λ s. n ≡ s.accepted) → IfSome o (λ s. s ≡ b.book) → n ≡ length b.accepted) [
         | None ↦ λ x y z. absurd (true≢false (sym x))
         | Some s ↦ λ x y z. y ∙ ap (λ (t : BookState). t.accepted) z ∙ law b ties.kept.reached
       ] is has ties.book
 
-  grows : (c : ActState) (a : Referenced) (before after : ℕ) → before ≡ length c.accepted → after ≡ length (act c a).accepted → nat_lt before after ≡ is_accepted c a
-  grows c a before after e f = elim (is_accepted c a) as (λ t. length (act c a).accepted ≡ length c.accepted + cond t 1 0 → nat_lt before after ≡ t) [
-    | true ↦ λ h. lt-ltb before after (omega (arith, e, f, h))
-    | false ↦ λ h. le-ltb before after (omega (arith, e, f, h))
-  ] (act_grows c a)
-
   -- a command was answered a reply
-  pub adds_ok : (old new : KeeperValue S) (b : ActState) (a : Referenced) (reply : Reply) (before after : ℕ) → ReachedCounts → IsSome old.book → Ties g old b
-      → IfSome old.book (λ s. before ≡ s.accepted) → IfSome new.book (λ s. after ≡ s.accepted)
-      → (answer b a ≡ Ok reply) × Ties g new (act b a) × IsSome new.book → Adds g new b a (Ok (nat_lt before after))
+  pub adds_ok : (old new : Keeper S T g) (b : ActState) (a : Referenced) (reply : Reply) (before after : ℕ) → ReachedCounts → IsSome (book_of old) → Ties old b
+      → IfSome (book_of old) (λ s. before ≡ s.accepted) → IfSome (book_of new) (λ s. after ≡ s.accepted)
+      → (answer b a ≡ Ok reply) × Ties new (act b a) × IsSome (book_of new) → Adds new b a (Ok (nat_lt before after))
   adds_ok old new b a reply before after law is ties was now made =
       (ap is_ok made.0, grows b a before after (counted old b before law ties is was) (counted new (act b a) after law made.1 made.2 now), (made.1, made.2))
 
   -- it was not
-  pub adds_err : (old new : KeeperValue S) (b : ActState) (a : Referenced) (stop : Stop) → IsSome old.book → Acted g old new b a (Err stop) → Adds g new b a (Err stop)
+  pub adds_err : (old new : Keeper S T g) (b : ActState) (a : Referenced) (stop : Stop) → IsSome (book_of old) → Acted old new b a (Err stop) → Adds new b a (Err stop)
   adds_err old new b a (stops.Refused refusal) is made = (made.0, (made.1, subst (λ o. IsSome o) (sym made.2) is))
   adds_err old new b a (stops.Fault faults.OutOfMemory) is made = (made.0, subst (λ o. IsSome o) (sym made.1) is)
   adds_err old new b a (stops.Fault faults.Store) is made = made
@@ -466,20 +502,20 @@ module _ {S : Type 0} (g : Ghosts S) where
   -- ---- the header
 
   -- nothing was read, and nothing acted
-  runs_nothing : (old : KeeperValue S) (known : Option (List Fields)) (whole : Bool) (fault : Fault) → IsSome old.book → HasCause fault (whole ≡ false) → fault ≢ faults.Store
-      → (fault ≡ faults.Input → IfSome known (λ rows. rows ≡ [])) → Runs g after_header old old known whole (Err (record { fault = fault; added = 0; again = 0 }))
+  runs_nothing : (old : Keeper S T g) (known : Option (List Fields)) (whole : Bool) (fault : Fault) → IsSome (book_of old) → HasCause fault (whole ≡ false) → fault ≢ faults.Store
+      → (fault ≡ faults.Input → IfSome known (λ rows. rows ≡ [])) → Runs after_header old old known whole (Err (record { fault = fault; added = 0; again = 0 }))
   runs_nothing old known whole fault is cause other none =
-      let first : (b : ActState) → Ties g old b → (rows : List Fields) × AreRows known rows × HoldsFirst g old b (unwrap_or (after_header rows) []) 0 0 = λ b ties.
+      let first : (b : ActState) → Ties old b → (rows : List Fields) × AreRows known rows × HoldsFirst old b (unwrap_or (after_header rows) []) 0 0 = λ b ties.
       let rows : List Fields = unwrap_or known [] in
       let body : List Fields = unwrap_or (after_header rows) [] in
       (rows, elim known as (λ k. AreRows k (unwrap_or k [])) [ None ↦ tt | Some k ↦ refl ], (b, body, ([], refl, taken_none b), (ties, is))) in
       record {
         clean = λ clean. clean;
-        dropped = (λ none. absurd (no_book_there old.book is none), λ e. absurd (other e));
+        dropped = (λ none. absurd (no_book_there (book_of old) is none), λ e. absurd (other e));
         cause = cause;
         ended = tt;
         left = λ cl b ties. elim fault as (λ f. HasCause f (whole ≡ false) → f ≢ faults.Store
-            → (rows : List Fields) × AreRows known rows × HoldsFirst g old b (unwrap_or (after_header rows) []) 0 0 → LeavesOf g after_header old b known (Err (record { fault = f; added = 0; again = 0 }))) [
+            → (rows : List Fields) × AreRows known rows × HoldsFirst old b (unwrap_or (after_header rows) []) 0 0 → LeavesOf after_header old b known (Err (record { fault = f; added = 0; again = 0 }))) [
               | faults.OutOfMemory ↦ λ h o it. it
               | faults.Input ↦ λ h o it. it
               | faults.Store ↦ λ h o it. absurd (o refl)
@@ -491,32 +527,25 @@ module _ {S : Type 0} (g : Ghosts S) where
             ([], no_rows, (b, taken_none b, (ties, is)));
       }
 
-  pub runs_nothing_by : (old : KeeperValue S) (known : Option (List Fields)) (whole : Bool) (fault : Fault) (e : ImportFault) → IsSome old.book → HasCause fault (whole ≡ false) → fault ≢ faults.Store
-      → (fault ≡ faults.Input → IfSome known (λ rows. rows ≡ [])) → e ≡ record { fault = fault; added = 0; again = 0 } → Runs g after_header old old known whole (Err e)
+  pub runs_nothing_by : (old : Keeper S T g) (known : Option (List Fields)) (whole : Bool) (fault : Fault) (e : ImportFault) → IsSome (book_of old) → HasCause fault (whole ≡ false) → fault ≢ faults.Store
+      → (fault ≡ faults.Input → IfSome known (λ rows. rows ≡ [])) → e ≡ record { fault = fault; added = 0; again = 0 } → Runs after_header old old known whole (Err e)
   runs_nothing_by old known whole fault e is cause other none told =
-      subst (λ f. Runs g after_header old old known whole (Err f)) (sym told) (runs_nothing old known whole fault is cause other none)
+      subst (λ f. Runs after_header old old known whole (Err f)) (sym told) (runs_nothing old known whole fault is cause other none)
 
   -- memory was refused before anything was read
-  pub leaves_nothing : (old : KeeperValue S) (known : Option (List Fields)) (b : ActState) → IsSome old.book → Ties g old b
-      → LeavesOf g after_header old b known (Err (record { fault = faults.OutOfMemory; added = 0; again = 0 }))
+  pub leaves_nothing : (old : Keeper S T g) (known : Option (List Fields)) (b : ActState) → IsSome (book_of old) → Ties old b
+      → LeavesOf after_header old b known (Err (record { fault = faults.OutOfMemory; added = 0; again = 0 }))
   leaves_nothing old known b is ties =
       let rows : List Fields = unwrap_or known [] in
       let body : List Fields = unwrap_or (after_header rows) [] in
       (rows, elim known as (λ k. AreRows k (unwrap_or k [])) [ None ↦ tt | Some k ↦ refl ], (b, body, ([], refl, taken_none b), (ties, is)))
 
-  -- the rows of a text that begin with a row that was taken, if one was
-  begins_with : (left after : Option (List Fields)) (found : Bool) (row : Fields) → TakesRow left after found row → (rows : List Fields) × AreRows left (cond found (row ∷ rows) [])
-  begins_with None after found row takes = ([], tt)
-  begins_with (Some l) None true row takes = absurd takes
-  begins_with (Some l) (Some rest) true row takes = (rest, sym takes)
-  begins_with (Some l) after false row takes = ([], sym takes)
-
   -- there is no header
-  pub runs_headless : (old : KeeperValue S) (left after : Option (List Fields)) (found whole : Bool) (row : Fields) (rep : ImportReport) → IsSome old.book → TakesRow left after found row
-      → cond found (is_header row) false ≡ false → rep.added ≡ 0 → rep.again ≡ 0 → rep.stopped ≡ Some (0, BadField 0) → Runs g after_header old old left whole (Ok rep)
+  pub runs_headless : (old : Keeper S T g) (left after : Option (List Fields)) (found whole : Bool) (row : Fields) (rep : ImportReport) → IsSome (book_of old) → TakesRow left after found row
+      → cond found (is_header row) false ≡ false → rep.added ≡ 0 → rep.again ≡ 0 → rep.stopped ≡ Some (0, BadField 0) → Runs after_header old old left whole (Ok rep)
   runs_headless old left after found whole row rep is takes none is_added is_again is_stopped = record {
     clean = λ clean. clean;
-    dropped = (λ e. no_book_there old.book is e, λ never. absurd never);
+    dropped = (λ e. no_book_there (book_of old) is e, λ never. absurd never);
     cause = tt;
     ended = λ no_stop. let e : ◌≡◌ {A = Option (ℕ × Refusal)} None (Some (0, BadField 0)) = sym no_stop ∙ is_stopped in cc;
     left = λ cl b ties.
@@ -529,15 +558,9 @@ module _ {S : Type 0} (g : Ghosts S) where
     all = λ cl b ties. tt;
   }
 
-  -- the rows after a row, and that row before them
-  row_before : (left after : Option (List Fields)) (row : Fields) (rows : List Fields) → TakesRow left after true row → AreRows after rows → AreRows left (row ∷ rows)
-  row_before None after row rows takes are = tt
-  row_before (Some l) None row rows takes are = absurd takes
-  row_before (Some l) (Some rest) row rows takes are = ap (λ x. row ∷ x) are ∙ sym takes
-
   -- the rows after the header were imported
-  pub runs_after : (old new : KeeperValue S) (left after : Option (List Fields)) (whole : Bool) (row : Fields) (result : Result ImportReport ImportFault) → TakesRow left after true row → is_header row ≡ true
-      → Runs g (λ rows. Some rows) old new after whole result → Runs g after_header old new left whole result
+  pub runs_after : (old new : Keeper S T g) (left after : Option (List Fields)) (whole : Bool) (row : Fields) (result : Result ImportReport ImportFault) → TakesRow left after true row → is_header row ≡ true
+      → Runs (λ rows. Some rows) old new after whole result → Runs after_header old new left whole result
   runs_after old new left after whole row result takes header it =
       let body : (rows : List Fields) → after_header (row ∷ rows) ≡ Some rows = λ rows. rw header refl in
       record {
@@ -548,8 +571,8 @@ module _ {S : Type 0} (g : Ghosts S) where
         left = λ cl b ties.
             let was = it.left cl b ties in
             (row ∷ was.0, row_before left after row was.0 takes was.1, rw (body was.0) was.2);
-        all = λ cl b ties. elim result as (λ r. IfErr r (λ e. e.fault ≡ faults.Input → HoldsAllOf g (λ rows. Some rows) new b after e.added e.again)
-            → IfErr r (λ e. e.fault ≡ faults.Input → HoldsAllOf g after_header new b left e.added e.again)) [
+        all = λ cl b ties. elim result as (λ r. IfErr r (λ e. e.fault ≡ faults.Input → HoldsAllOf (λ rows. Some rows) new b after e.added e.again)
+            → IfErr r (λ e. e.fault ≡ faults.Input → HoldsAllOf after_header new b left e.added e.again)) [
               | Ok report ↦ λ h. tt
               | Err e ↦ λ h is. let was = h is in (row ∷ was.0, row_before left after row was.0 takes was.1, rw (body was.0) was.2)
             ] (it.all cl b ties);
@@ -557,42 +580,20 @@ module _ {S : Type 0} (g : Ghosts S) where
 
   -- ---- what was gathered, and then what is left, is the text
 
-  -- an import that stopped within the first rows stops there among more of them
-  ends_more : (c : ActState) (number : ℕ) (later more : List Fields) (stopped : Option (ℕ × Refusal)) → stopped ≢ None → EndsAt c number later stopped → EndsAt c number (later ++ more) stopped
-  ends_more c number [] more stopped goes ends = absurd (goes ends)
-  ends_more c number (row ∷ later) more stopped goes ends = ends
-
-  rows_more : (b : ActState) (rows more : List Fields) (i : Import) → i.stopped ≢ None → ImportsRows b rows i → ImportsRows b (rows ++ more) i
-  rows_more b rows more i goes (later, (done, split, taken), ends) =
-      (later ++ more, (done, ap (λ l. l ++ more) split ∙ append_assoc done later more, taken), ends_more i.state (i.added + i.again + 1) later more i.stopped goes ends)
-
-  report_more : (k : KeeperValue S) (b : ActState) (rows more : List Fields) (report : ImportReport) → report.stopped ≢ None → rows ≢ []
-      → Leaves g k b (after_header rows) (Ok report) → Leaves g k b (after_header (rows ++ more)) (Ok report)
+  report_more : (k : Keeper S T g) (b : ActState) (rows more : List Fields) (report : ImportReport) → report.stopped ≢ None → rows ≢ []
+      → Leaves k b (after_header rows) (Ok report) → Leaves k b (after_header (rows ++ more)) (Ok report)
   report_more k b [] more report goes some h = absurd (some refl)
   report_more k b (header ∷ rows) more report goes some h =
-      elim (is_header header) as (λ t. (c : ActState) × ImportsBody b (if t then Some rows else None) (import_as c report) × Holds g k c
-      → (c : ActState) × ImportsBody b (if t then Some (rows ++ more) else None) (import_as c report) × Holds g k c) [
+      elim (is_header header) as (λ t. (c : ActState) × ImportsBody b (if t then Some rows else None) (import_as c report) × Holds k c
+      → (c : ActState) × ImportsBody b (if t then Some (rows ++ more) else None) (import_as c report) × Holds k c) [
         | true ↦ λ it. (it.0, rows_more b rows more (import_as it.0 report) goes it.1, it.2)
         | false ↦ λ it. it
       ] h
 
-  -- the rows after the header are the first of those after it in a longer text
-  body_more : (rows more : List Fields) → (rest : List Fields) × (unwrap_or (after_header (rows ++ more)) [] ≡ unwrap_or (after_header rows) [] ++ rest)
-  body_more [] more = (unwrap_or (after_header more) [], refl)
-  body_more (header ∷ rows) more =
-      elim (is_header header) as (λ t. (rest : List Fields) × (unwrap_or (if t then Some (rows ++ more) else None) [] ≡ unwrap_or (if t then Some rows else None) [] ++ rest)) [
-        | true ↦ (more, refl)
-        | false ↦ ([], refl)
-      ]
-
-  next_more : (later more : List Fields) (a : Referenced) → IsNext later a → IsNext (later ++ more) a
-  next_more [] more a next = absurd next
-  next_more (row ∷ later) more a next = next
-
-  first_more : (k : KeeperValue S) (b : ActState) (rows more : List Fields) (added again : ℕ) → HoldsFirst g k b rows added again → HoldsFirst g k b (rows ++ more) added again
+  first_more : (k : Keeper S T g) (b : ActState) (rows more : List Fields) (added again : ℕ) → HoldsFirst k b rows added again → HoldsFirst k b (rows ++ more) added again
   first_more k b rows more added again (c, later, (done, split, taken), holds) = (c, later ++ more, (done, ap (λ l. l ++ more) split ∙ append_assoc done later more, taken), holds)
 
-  breaks_more : (k : KeeperValue S) (b : ActState) (rows more : List Fields) (fault : Fault) (added again : ℕ) → Breaks g k b rows fault added again → Breaks g k b (rows ++ more) fault added again
+  breaks_more : (k : Keeper S T g) (b : ActState) (rows more : List Fields) (fault : Fault) (added again : ℕ) → Breaks k b rows fault added again → Breaks k b (rows ++ more) fault added again
   breaks_more k b rows more faults.OutOfMemory added again h = first_more k b rows more added again h
   breaks_more k b rows more faults.Input added again h = first_more k b rows more added again h
   breaks_more k b rows more faults.Store added again (c, later, a, (done, split, taken), next, keeps, none) =
@@ -601,16 +602,16 @@ module _ {S : Type 0} (g : Ghosts S) where
   breaks_more k b rows more faults.Output added again h = absurd h
 
   -- what an import of the first rows left is what one of all leaves, where it stopped or broke off among them
-  leaves_more : (k : KeeperValue S) (b : ActState) (rows more : List Fields) (r : Result ImportReport ImportFault) → IfOk r (λ report. report.stopped ≢ None) → IfOk r (λ report. rows ≢ [])
-      → Leaves g k b (after_header rows) r → Leaves g k b (after_header (rows ++ more)) r
+  leaves_more : (k : Keeper S T g) (b : ActState) (rows more : List Fields) (r : Result ImportReport ImportFault) → IfOk r (λ report. report.stopped ≢ None) → IfOk r (λ report. rows ≢ [])
+      → Leaves k b (after_header rows) r → Leaves k b (after_header (rows ++ more)) r
   leaves_more k b rows more (Ok report) goes some h = report_more k b rows more report goes some h
   leaves_more k b rows more (Err e) goes some h =
       let body = body_more rows more in
       rw body.1 (breaks_more k b (unwrap_or (after_header rows) []) body.0 e.fault e.added e.again h)
 
-  pub imported_gathered : (k : KeeperValue S) (b : ActState) (old new : Option (List ℕ)) (bytes : List ℕ) (whole : Bool) (r : Result ImportReport ImportFault) → WholeRowsStand → Consumes old new bytes
+  pub imported_gathered : (k : Keeper S T g) (b : ActState) (old new : Option (List ℕ)) (bytes : List ℕ) (whole : Bool) (r : Result ImportReport ImportFault) → WholeRowsStand → Consumes old new bytes
       → (whole ≡ true → is_over new ≡ true) → IfOk r (λ report. report.stopped ≡ None → whole ≡ true) → (whole ≡ false → IfOk r (λ report. Some (gathered_rows whole bytes) ≢ Some []))
-      → Imported g k b (Some (gathered_rows whole bytes)) r → Imported g k b (option_map rows_of old) r
+      → Imported k b (Some (gathered_rows whole bytes)) r → Imported k b (option_map rows_of old) r
   imported_gathered k b None new bytes whole r law c over ended some h = (h.0, tt, h.2)
   imported_gathered k b (Some xs) None bytes whole r law c over ended some h = absurd c
   imported_gathered k b (Some xs) (Some []) bytes true r law c over ended some h = rw (c, append-nil bytes) h
@@ -625,18 +626,18 @@ module _ {S : Type 0} (g : Ghosts S) where
         | Ok report ↦ λ e none. e (ap (λ l. Some l) none)
         | Err e ↦ λ e. tt
       ] (some refl) in
-      rw (c, begins.1) (whole_rows bytes ++ begins.0, refl, leaves_more k b (whole_rows bytes) begins.0 r goes rows (subst (λ l. Leaves g k b (after_header l) r) h.1 h.2))
+      rw (c, begins.1) (whole_rows bytes ++ begins.0, refl, leaves_more k b (whole_rows bytes) begins.0 r goes rows (subst (λ l. Leaves k b (after_header l) r) h.1 h.2))
 
   -- a reader broke off, and all whole rows of what it gave were taken
-  pub broken_gathered : (k : KeeperValue S) (b : ActState) (old new : Option (List ℕ)) (bytes : List ℕ) (whole : Bool) (r : Result ImportReport ImportFault) → Consumes old new bytes
-      → IfErr r (λ e. HasCause e.fault (whole ≡ false)) → IfErr r (λ e. e.fault ≡ faults.Input → HoldsAllOf g after_header k b (Some (gathered_rows whole bytes)) e.added e.again)
-      → IfErr r (λ e. e.fault ≡ faults.Input → HoldsWholeRows g k b old new e.added e.again)
+  pub broken_gathered : (k : Keeper S T g) (b : ActState) (old new : Option (List ℕ)) (bytes : List ℕ) (whole : Bool) (r : Result ImportReport ImportFault) → Consumes old new bytes
+      → IfErr r (λ e. HasCause e.fault (whole ≡ false)) → IfErr r (λ e. e.fault ≡ faults.Input → HoldsAllOf after_header k b (Some (gathered_rows whole bytes)) e.added e.again)
+      → IfErr r (λ e. e.fault ≡ faults.Input → HoldsWholeRows k b old new e.added e.again)
   broken_gathered k b old new bytes whole (Ok report) consumed cause all = tt
   broken_gathered k b old new bytes whole (Err e) consumed cause all = λ is.
       let cut : whole ≡ false = subst (λ f. HasCause f (whole ≡ false)) is cause in
       let held = all is in
       let rows : held.0 ≡ whole_rows bytes = rw cut at held.1 in
-      (bytes, consumed, subst (λ l. HoldsAll g k b (unwrap_or (after_header l) []) e.added e.again) rows held.2)
+      (bytes, consumed, subst (λ l. HoldsAll k b (unwrap_or (after_header l) []) e.added e.again) rows held.2)
 
 pub within_gathered : (old new : Option (List ℕ)) (bytes : List ℕ) (limit : ℕ) → Consumes old new bytes → is_over new ≡ true → length bytes ≤ limit → IsWithin old limit
 within_gathered None new bytes limit c over few = tt

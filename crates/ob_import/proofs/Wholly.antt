@@ -2,11 +2,7 @@
 use Rattle.std.proofs.Common.{◌≡◌, ◌≢◌, ◌∙◌, sym, ap, subst, refl, ℕ, ◌+◌, ◌-◌, Bool, true, false, List, [], ◌∷◌, ◌++◌, ◌≤◌, ◌⊎◌, length, Option, Some, None, Result, Ok, Err, inl, inr, arith, append-nil, true≢false}
 use Rattle.std.specs.Prelude.{IfErr, IfOk, IsSome, option_map, unwrap_or}
 use Rattle.std.specs.Io.KnownBytes.{Consumes}
-use Rattle.sqlite.specs.Held.{Held, state}
-use Rattle.sqlite.specs.State.{HasCleanDisk}
-use Rattle.ob_sql_rows.specs.Steps.{HasFailed}
-use Rattle.ob_sql_write.specs.Keeps.{WasUndone}
-use Rattle.ob_record.specs.Tables.{tables_of}
+use Rattle.sqlite.specs.Held.{state}
 use Rattle.ob_base.specs.declared.stop.Fault.{Fault}
 use Rattle.ob_base.specs.declared.stop.Fault.TheVariants as faults
 use Rattle.ob_base.specs.declared.stop.Refusal.{Refusal}
@@ -21,11 +17,11 @@ use Rattle.ob_stream.specs.declared.watched.Watched.{Watched}
 use Rattle.ob_stream.proofs.Trying.{none_tried, tried_all}
 use Rattle.ob_book.specs.Acts.{ActState}
 use Rattle.ob_store.specs.Acting.{IsActStop}
-use Rattle.ob_store.specs.Calls.{WasClean}
-use Rattle.ob_store.specs.Keepers.{Ghosts, IsClean, KeeperValue, StoresNumbers, Ties}
-use Rattle.ob_store.specs.Keeping.{KeepsBook}
-use Rattle.ob_store.specs.Whole.{ActedAll, CommitsOf, EndsAt, HasListCause, LeadTo, Line, after_lines}
+use Rattle.ob_store.specs.Calls.{ActedAll, CommitsOf, HasListCause, IfHeld, StoreFailed, UndidTables, WasClean}
+use Rattle.ob_store.specs.Keepers.{Ghosts, Stores, StoresNumbers, Ties, book_of}
+use Rattle.ob_store.specs.Whole.{EndsAt, LeadTo, Line, after_lines}
 use Rattle.ob_store.specs.declared.whole.Halted.{Halted}
+use Rattle.ob_store.specs.declared.keeper.Keeper.{Keeper}
 use Rattle.ob_import.specs.Imports.{Import, ImportsBody, Taken, after_header, headless}
 use Rattle.ob_import.specs.Gathering.{IsWithin, is_over}
 use Rattle.ob_import.specs.Reports.{AreRows, HasCause, IsStoreFault, no_book}
@@ -70,16 +66,16 @@ module _ (b : ActState) (all rows : List Fields) (list : List Line) (header : af
         refl,
       )
 
-no_book_ties : {S : Type 0} (g : Ghosts S) (k : KeeperValue S) (b : ActState) → KeepsBook (state g k.conn) b → k.book ≡ None → Ties g k b
-no_book_ties g k b keeps none = record { kept = keeps; book = rw none tt }
+no_book_ties : {S T : Type 0} {g : Ghosts S} (k : Keeper S T g) (b : ActState) → Stores k b → book_of k ≡ None → Ties k b
+no_book_ties k b keeps none = record { kept = keeps; book = rw none tt }
 
-module _ {S : Type 0} (g : Ghosts S) (new : KeeperValue S) (b : ActState) (all rows : List Fields) (list : List Line) (header : after_header all ≡ Some rows) (lines : AreLines 1 rows list) where
-  stop_left : (place : ℕ) (stop : Stop) (result : Result ImportReport ImportFault) → EndsAt (state g new.conn) b list place stop → new.book ≡ None → IsStopOf place stop result → LeavesWhole g new b all result
+module _ {S T : Type 0} {g : Ghosts S} (new : Keeper S T g) (b : ActState) (all rows : List Fields) (list : List Line) (header : after_header all ≡ Some rows) (lines : AreLines 1 rows list) where
+  stop_left : (place : ℕ) (stop : Stop) (result : Result ImportReport ImportFault) → EndsAt (state g new.parts.conn) b list place stop → book_of new ≡ None → IsStopOf place stop result → LeavesWhole new b all result
   stop_left place (stops.Refused refusal) result ends none is =
-      subst (LeavesWhole g new b all) (sym is) (imports_stop b all rows list header lines place refusal ends.0, refl, refl, no_book_ties g new b ends.1 none)
-  stop_left place (stops.Fault faults.OutOfMemory) result ends none is = subst (LeavesWhole g new b all) (sym is) (no_book_ties g new b ends none, refl, refl)
+      subst (LeavesWhole new b all) (sym is) (imports_stop b all rows list header lines place refusal ends.0, refl, refl, no_book_ties new b ends.1 none)
+  stop_left place (stops.Fault faults.OutOfMemory) result ends none is = subst (LeavesWhole new b all) (sym is) (no_book_ties new b ends none, refl, refl)
   stop_left place (stops.Fault faults.Store) result ends none is =
-      subst (LeavesWhole g new b all) (sym is) (
+      subst (LeavesWhole new b all) (sym is) (
         (
           elim ends [
             | inl keeps ↦ inl keeps
@@ -94,9 +90,9 @@ module _ {S : Type 0} (g : Ghosts S) (new : KeeperValue S) (b : ActState) (all r
   stop_left place (stops.Fault faults.Input) result ends none is = absurd ends
   stop_left place (stops.Fault faults.Output) result ends none is = absurd ends
 
-  pub left_by : (run : Result ℕ Halted) (result : Result ImportReport ImportFault) → ActedAll g new b list run → IsEndOf run (length list) result → LeavesWhole g new b all result
+  pub left_by : (run : Result ℕ Halted) (result : Result ImportReport ImportFault) → ActedAll new b list run → IsEndOf run (length list) result → LeavesWhole new b all result
   left_by (Ok added) result acted is =
-      subst (LeavesWhole g new b all) (sym is) (acted.0, imports_all b all rows list header lines acted.0 added acted.1 acted.2, (acted.3, acted.4))
+      subst (LeavesWhole new b all) (sym is) (acted.0, imports_all b all rows list header lines acted.0 added acted.1 acted.2, (acted.3, acted.4))
   left_by (Err e) result acted is = stop_left e.place e.stop result acted.0 acted.1 is
 
 stop_cause : (place : ℕ) (stop : Stop) (result : Result ImportReport ImportFault) → IsActStop stop → IsStopOf place stop result → IfErr result (λ e. HasCause e.fault ⊥)
@@ -124,42 +120,42 @@ stop_of_store place (stops.Refused refusal) result is fails = absurd (subst IsSt
 stop_of_store place (stops.Fault fault) result is fails = ap (λ f. stops.Fault f) (subst IsStoreFault is fails)
 
 -- nothing was done, and no fault of the store is told
-tells_none : {S : Type 0} (g : Ghosts S) (k : KeeperValue S) (rows : List Fields) (result : Result ImportReport ImportFault) → (IsStoreFault result → ⊥)
-    → TellsWholeFaults g k k rows result
-tells_none g k rows result never = record {
+tells_none : {S T : Type 0} {g : Ghosts S} (k : Keeper S T g) (rows : List Fields) (result : Result ImportReport ImportFault) → (IsStoreFault result → ⊥)
+    → TellsWholeFaults k k rows result
+tells_none k rows result never = record {
   numbered = λ clean b ties some numbers. numbers;
   cause = λ clean b ties some numbers fails. absurd (never fails);
 }
 
-module _ {S : Type 0} (g : Ghosts S) where
-  list_failed : (old new : Held S) (b : ActState) (list : List Line) (lines : ℕ) (run : Result ℕ Halted) (result : Result ImportReport ImportFault)
-      → IsEndOf run lines result → IsStoreFault result → HasListCause g old new b list run
-      → HasFailed (state g old) (state g new) ⊎ ((c : ActState) × LeadTo list b c × WasUndone g (state g new) (tables_of c))
+module _ {S T : Type 0} {g : Ghosts S} where
+  list_failed : (old new : Keeper S T g) (b : ActState) (list : List Line) (lines : ℕ) (run : Result ℕ Halted) (result : Result ImportReport ImportFault)
+      → IsEndOf run lines result → IsStoreFault result → HasListCause old new b list run
+      → StoreFailed old new ⊎ ((c : ActState) × LeadTo list b c × UndidTables new c)
   list_failed old new b list lines (Ok added) result is fails cause = absurd (subst IsStoreFault is fails)
   list_failed old new b list lines (Err e) result is fails cause = cause (stop_of_store e.place e.stop result is fails)
 
-  tells_whole : (old new : KeeperValue S) (all rows : List Fields) (list : List Line) (run : Result ℕ Halted) (result : Result ImportReport ImportFault)
-      → after_header all ≡ Some rows → AreLines 1 rows list → ((b : ActState) → Ties g old b → StoresNumbers g old → StoresNumbers g new)
-      → (IsClean g new → (b : ActState) → Ties g old b → StoresNumbers g old → IsSome old.book → HasListCause g old.conn new.conn b list run)
-      → IsEndOf run (length list) result → TellsWholeFaults g old new all result
+  tells_whole : (old new : Keeper S T g) (all rows : List Fields) (list : List Line) (run : Result ℕ Halted) (result : Result ImportReport ImportFault)
+      → after_header all ≡ Some rows → AreLines 1 rows list → ((b : ActState) → Ties old b → StoresNumbers old → StoresNumbers new)
+      → IfHeld old new (λ b. StoresNumbers old → HasListCause old new b list run)
+      → IsEndOf run (length list) result → TellsWholeFaults old new all result
   tells_whole old new all rows list run result header lines numbered cause is = record {
     numbered = λ clean b ties some numbers. numbered b ties numbers;
     cause = λ clean b ties some numbers fails.
-        elim (list_failed old.conn new.conn b list (length list) run result is fails (cause clean b ties numbers some)) [
+        elim (list_failed old new b list (length list) run result is fails (cause clean b ties some numbers)) [
           | inl failed ↦ inl failed
           | inr undone ↦ inr (undone.0, leads_all b all rows list header lines undone.0 undone.1, undone.2)
         ];
   }
 
-pub runs_whole : {S : Type 0} (g : Ghosts S) (old new : KeeperValue S) (all rows : List Fields) (list : List Line) (run : Result ℕ Halted) (result : Result ImportReport ImportFault) → after_header all ≡ Some rows → AreLines 1 rows list
-    → WasClean g old new → IfErr run (λ e. IsActStop e.stop) → (HasCleanDisk (state g new.conn) → (b : ActState) → Ties g old b → IsSome old.book → ActedAll g new b list run) → CommitsOf g (LeadTo list) old new
-    → ((b : ActState) → Ties g old b → StoresNumbers g old → StoresNumbers g new)
-    → (IsClean g new → (b : ActState) → Ties g old b → StoresNumbers g old → IsSome old.book → HasListCause g old.conn new.conn b list run)
-    → IsEndOf run (length list) result → RunsWhole g old new all result
-runs_whole g old new all rows list run result header lines clean may acted commits numbered cause is = record {
+pub runs_whole : {S T : Type 0} {g : Ghosts S} (old new : Keeper S T g) (all rows : List Fields) (list : List Line) (run : Result ℕ Halted) (result : Result ImportReport ImportFault) → after_header all ≡ Some rows → AreLines 1 rows list
+    → WasClean old new → IfErr run (λ e. IsActStop e.stop) → IfHeld old new (λ b. ActedAll new b list run) → CommitsOf (LeadTo list) old new
+    → ((b : ActState) → Ties old b → StoresNumbers old → StoresNumbers new)
+    → IfHeld old new (λ b. StoresNumbers old → HasListCause old new b list run)
+    → IsEndOf run (length list) result → RunsWhole old new all result
+runs_whole old new all rows list run result header lines clean may acted commits numbered cause is = record {
   clean = clean;
   cause = cause_of run (length list) result may is;
-  left = λ cl b ties some. left_by g new b all rows list header lines run result (acted cl b ties some) is;
+  left = λ cl b ties some. left_by new b all rows list header lines run result (acted cl b ties some) is;
   commits = record {
     clean = commits.clean;
     shield = commits.shield;
@@ -171,34 +167,34 @@ runs_whole g old new all rows list run result header lines clean may acted commi
       | inr leads ↦ inr (λ b ties some. let it = leads b ties some in (it.0, leads_all b all rows list header lines it.0 it.1, it.2))
     ];
   };
-  tells = tells_whole g old new all rows list run result header lines numbered cause is;
+  tells = tells_whole old new all rows list run result header lines numbered cause is;
 }
 
 -- ---- nothing was applied
-pub commits_none : {S : Type 0} (g : Ghosts S) (k : KeeperValue S) (Leads : ActState → ActState → Type 0) → CommitsOf g Leads k k
-commits_none g k Leads = record { clean = omega arith; shield = λ x. x; counts = omega arith; limit = refl; closes = λ clean live. inl live; crash = λ clean db may. inl may }
+pub commits_none : {S T : Type 0} {g : Ghosts S} (k : Keeper S T g) (Leads : ActState → ActState → Type 0) → CommitsOf Leads k k
+commits_none k Leads = record { clean = omega arith; shield = λ x. x; counts = omega arith; limit = refl; closes = λ clean live. inl live; crash = λ clean db may. inl may }
 
-pub runs_headless : {S : Type 0} (g : Ghosts S) (k : KeeperValue S) (all : List Fields) (result : Result ImportReport ImportFault) → after_header all ≡ None → result ≡ Ok (record { added = 0; again = 0; stopped = Some (0, BadField 0) })
-    → RunsWhole g k k all result
-runs_headless g k all result none is = record {
+pub runs_headless : {S T : Type 0} {g : Ghosts S} (k : Keeper S T g) (all : List Fields) (result : Result ImportReport ImportFault) → after_header all ≡ None → result ≡ Ok (record { added = 0; again = 0; stopped = Some (0, BadField 0) })
+    → RunsWhole k k all result
+runs_headless k all result none is = record {
   clean = λ clean. clean;
   cause = rw is tt;
-  left = λ cl b ties some. subst (LeavesWhole g k b all) (sym is)
+  left = λ cl b ties some. subst (LeavesWhole k b all) (sym is)
       ((headless b, subst (λ body. ImportsBody b body (headless b)) (sym none) refl, refl), refl, refl, ties);
-  commits = commits_none g k (ImportsAll all);
-  tells = tells_none g k all result (λ fails. subst IsStoreFault is fails);
+  commits = commits_none k (ImportsAll all);
+  tells = tells_none k all result (λ fails. subst IsStoreFault is fails);
 }
 
-pub runs_starved : {S : Type 0} (g : Ghosts S) (k : KeeperValue S) (all : List Fields) (fault : Fault) (result : Result ImportReport ImportFault) → fault ≡ faults.OutOfMemory
-    → result ≡ Err (record { fault = fault; added = 0; again = 0 }) → RunsWhole g k k all result
-runs_starved g k all fault result memory is =
+pub runs_starved : {S T : Type 0} {g : Ghosts S} (k : Keeper S T g) (all : List Fields) (fault : Fault) (result : Result ImportReport ImportFault) → fault ≡ faults.OutOfMemory
+    → result ≡ Err (record { fault = fault; added = 0; again = 0 }) → RunsWhole k k all result
+runs_starved k all fault result memory is =
     let told : result ≡ Err (record { fault = faults.OutOfMemory; added = 0; again = 0 }) = is ∙ ap (λ f. Err (record { fault = f; added = 0; again = 0 })) memory in
     record {
       clean = λ clean. clean;
       cause = rw told tt;
-      left = λ cl b ties some. subst (LeavesWhole g k b all) (sym told) (ties, refl, refl);
-      commits = commits_none g k (ImportsAll all);
-      tells = tells_none g k all result (λ fails. memory_no_store (subst IsStoreFault told fails));
+      left = λ cl b ties some. subst (LeavesWhole k b all) (sym told) (ties, refl, refl);
+      commits = commits_none k (ImportsAll all);
+      tells = tells_none k all result (λ fails. memory_no_store (subst IsStoreFault told fails));
     }
 
 -- ---- a text from a reader
@@ -217,15 +213,15 @@ bound_any : (done : Result ImportReport ImportFault) (P : Type 0) → P → IfOk
 bound_any (Ok r) P p = λ none. p
 bound_any (Err e) P p = tt
 
-module _ {S R : Type 0} (g : Ghosts S) (remaining : R → Option (List ℕ)) where
-  pub whole_of : (old new : KeeperValue S) (was is : Watched R) (bytes : List ℕ) (done : Result ImportReport ImportFault) → IsSome old.book → Consumes (watched_bytes remaining was) (watched_bytes remaining is) bytes
+module _ {S T R : Type 0} {g : Ghosts S} (remaining : R → Option (List ℕ)) where
+  pub whole_of : (old new : Keeper S T g) (was is : Watched R) (bytes : List ℕ) (done : Result ImportReport ImportFault) → IsSome (book_of old) → Consumes (watched_bytes remaining was) (watched_bytes remaining is) bytes
       → is_over (watched_bytes remaining is) ≡ true → length bytes ≤ 268435456 → (left : ℕ) → TriesAll 65536 left was is
-      → RunsWhole g old new (rows_of bytes) done → WholeOf g remaining old new was is done
+      → RunsWhole old new (rows_of bytes) done → WholeOf remaining old new was is done
   whole_of old new was is bytes done some consumed over few left tries runs =
       let known = rows_known (watched_bytes remaining was) (watched_bytes remaining is) bytes consumed over in
       record {
-        reopen = not_bookless old.book done ⊥ some runs.cause;
-        unopened = λ none. absurd (not_none old.book some none);
+        reopen = not_bookless (book_of old) done ⊥ some runs.cause;
+        unopened = λ none. absurd (not_none (book_of old) some none);
         imported = λ clean b ties there. (rows_of bytes, known, runs.left clean b ties there);
         clean = runs.clean;
         cause = λ there. cause_by done ⊥ (HasJustFailed is ⊎ Passes (watched_bytes remaining was) 268435456) (λ never. absurd never) runs.cause;
@@ -236,7 +232,7 @@ module _ {S R : Type 0} (g : Ghosts S) (remaining : R → Option (List ℕ)) whe
         tells = (rows_of bytes, known, runs.tells);
       }
 
-  breaks_so : (k : KeeperValue S) (b : ActState) (rows : List Fields) (fault : Fault) (X : Type 0) → HasCause fault X → fault ≢ faults.Store → Ties g k b → BreaksWhole g k b rows fault
+  breaks_so : (k : Keeper S T g) (b : ActState) (rows : List Fields) (fault : Fault) (X : Type 0) → HasCause fault X → fault ≢ faults.Store → Ties k b → BreaksWhole k b rows fault
   breaks_so k b rows faults.OutOfMemory X cause other ties = ties
   breaks_so k b rows faults.Input X cause other ties = ties
   breaks_so k b rows faults.Store X cause other ties = absurd (other refl)
@@ -244,41 +240,41 @@ module _ {S R : Type 0} (g : Ghosts S) (remaining : R → Option (List ℕ)) whe
   breaks_so k b rows faults.Output X cause other ties = absurd cause
 
   -- the text was not read whole
-  pub nothing_of : (k : KeeperValue S) (was is : Watched R) (fault : Fault) (done : Result ImportReport ImportFault) → IsSome k.book → HasCause fault (HasJustFailed is ⊎ Passes (watched_bytes remaining was) 268435456)
+  pub nothing_of : (k : Keeper S T g) (was is : Watched R) (fault : Fault) (done : Result ImportReport ImportFault) → IsSome (book_of k) → HasCause fault (HasJustFailed is ⊎ Passes (watched_bytes remaining was) 268435456)
       → fault ≢ faults.Store → done ≡ Err (record { fault = fault; added = 0; again = 0 }) → (left : ℕ) → TriesOrGivesUp 65536 left was is
-      → WholeOf g remaining k k was is done
+      → WholeOf remaining k k was is done
   nothing_of k was is fault done some cause other told left tries =
       let X = HasJustFailed is ⊎ Passes (watched_bytes remaining was) 268435456 in
       let known = option_map rows_of (watched_bytes remaining was) in
       let rows : List Fields = unwrap_or known [] in
       let why : IfErr done (λ e. HasCause e.fault X) = rw told cause in
       record {
-        reopen = not_bookless k.book done X some why;
-        unopened = λ none. absurd (not_none k.book some none);
-        imported = λ clean b ties there. (rows, are_any known, subst (LeavesWhole g k b rows) (sym told) (breaks_so k b rows fault X cause other ties, refl, refl));
+        reopen = not_bookless (book_of k) done X some why;
+        unopened = λ none. absurd (not_none (book_of k) some none);
+        imported = λ clean b ties there. (rows, are_any known, subst (LeavesWhole k b rows) (sym told) (breaks_so k b rows fault X cause other ties, refl, refl));
         clean = λ clean. clean;
         cause = λ there. why;
         bound = rw told tt;
         tries = subst (λ (r : Result ImportReport ImportFault). TriesAnew was is r) (sym told) (left, tries);
-        commits = (rows, are_any known, commits_none g k (ImportsAll rows));
-        tells = (rows, are_any known, tells_none g k rows done (λ fails. other (subst IsStoreFault told fails)));
+        commits = (rows, are_any known, commits_none k (ImportsAll rows));
+        tells = (rows, are_any known, tells_none k rows done (λ fails. other (subst IsStoreFault told fails)));
       }
 
   -- there is no book
-  pub bookless_of : (k : KeeperValue S) (was : Watched R) (done : Result ImportReport ImportFault) → k.book ≡ None → done ≡ no_book → WholeOf g remaining k k was was done
+  pub bookless_of : (k : Keeper S T g) (was : Watched R) (done : Result ImportReport ImportFault) → book_of k ≡ None → done ≡ no_book → WholeOf remaining k k was was done
   bookless_of k was done none told =
       let known = option_map rows_of (watched_bytes remaining was) in
       let rows : List Fields = unwrap_or known [] in
       record {
         reopen = ((λ _. told), λ _. none);
         unopened = λ _. refl;
-        imported = λ clean b ties there. absurd (not_none k.book there none);
+        imported = λ clean b ties there. absurd (not_none (book_of k) there none);
         clean = λ clean. clean;
-        cause = λ there. absurd (not_none k.book there none);
+        cause = λ there. absurd (not_none (book_of k) there none);
         bound = rw told tt;
         tries = (65536, tried_all done (none_tried 65536 was));
-        commits = (rows, are_any known, commits_none g k (ImportsAll rows));
-        tells = (rows, are_any known, tells_none g k rows done (λ fails. reopen_no_store (subst IsStoreFault told fails)));
+        commits = (rows, are_any known, commits_none k (ImportsAll rows));
+        tells = (rows, are_any known, tells_none k rows done (λ fails. reopen_no_store (subst IsStoreFault told fails)));
       }
 
 -- ---- the lines that were read

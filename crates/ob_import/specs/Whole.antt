@@ -1,7 +1,6 @@
 -- What an import of a whole text makes of a book: all of its rows, or none.
 use Rattle.std.specs.Prelude.{◌≡◌, ◌↔◌, ◌⊎◌, ◌≤◌, ℕ, ◌+◌, ◌-◌, ⊤, List, [], ◌∷◌, length, Option, Some, None, Result, Ok, Err, nat_lt, MatchOption, IfErr, IfOk, IsSome, option_map}
 use Rattle.std.specs.Bool.{MatchBool}
-use Rattle.sqlite.specs.Held.{state}
 use Rattle.ob_base.specs.declared.stop.Fault.{Fault}
 use Rattle.ob_base.specs.declared.stop.Fault.TheVariants.{OutOfMemory, Store, Reopen, Input, Output}
 use Rattle.ob_base.specs.declared.stop.Stop.{Stop}
@@ -15,12 +14,11 @@ use Rattle.ob_stream.specs.Watching.{HasJustFailed, watched_bytes}
 use Rattle.ob_stream.specs.declared.watched.Watched.{Watched}
 use Rattle.ob_command.specs.Fields.{IsRow}
 use Rattle.ob_book.specs.Acts.{ActState}
-use Rattle.ob_sql_write.specs.Keeps.{WasUndone}
-use Rattle.ob_record.specs.Tables.{tables_of}
-use Rattle.ob_store.specs.Calls.{IfHeld, IfStored, StoreFailed, WasClean}
-use Rattle.ob_store.specs.Keepers.{Ghosts, Holds, KeeperValue, Stores, StoresEither, StoresNumbers, Ties}
-use Rattle.ob_store.specs.Whole.{CommitsOf, Line}
+use Rattle.ob_store.specs.Calls.{CommitsOf, IfHeld, IfStored, StoreFailed, UndidTables, WasClean}
+use Rattle.ob_store.specs.Keepers.{Ghosts, Holds, Stores, StoresEither, StoresNumbers, Ties, book_of}
+use Rattle.ob_store.specs.Whole.{Line}
 use Rattle.ob_store.specs.declared.whole.Halted.{Halted}
+use Rattle.ob_store.specs.declared.keeper.Keeper.{Keeper}
 use Rattle.ob_import.specs.Gathering.{IsWithin}
 use Rattle.ob_import.specs.Imports.{Import, Imports, after_header}
 use Rattle.ob_import.specs.Reports.{AreRows, HasCause, IsStoreFault, import_as, no_book}
@@ -67,63 +65,63 @@ ImportsAll rows b c =
 abbrev pub ImportStops : ActState → List Fields → ℕ × Refusal → Type 0
 ImportStops b rows at = (i : Import) × Imports b rows i × (i.stopped ≡ Some at)
 
-module _ {S : Type 0} (g : Ghosts S) where
+module _ {S T : Type 0} {g : Ghosts S} where
   -- no row was refused, and the keeper holds what an import of the rows leaves; or one was, at which an import stops, and
   -- nothing was added
-  abbrev pub EndsWhole : KeeperValue S → ActState → List Fields → ImportReport → Option (ℕ × Refusal) → Type 0
-  EndsWhole new b rows report None = (c : ActState) × Imports b rows (import_as c report) × Holds g new c
-  EndsWhole new b rows report (Some at) = ImportStops b rows at × (report.added ≡ 0) × (report.again ≡ 0) × Ties g new b
+  abbrev pub EndsWhole : Keeper S T g → ActState → List Fields → ImportReport → Option (ℕ × Refusal) → Type 0
+  EndsWhole new b rows report None = (c : ActState) × Imports b rows (import_as c report) × Holds new c
+  EndsWhole new b rows report (Some at) = ImportStops b rows at × (report.added ≡ 0) × (report.again ≡ 0) × Ties new b
 
   -- what stands after a fault: the book as it was; or, where the store failed, that book or all rows in it
-  abbrev pub BreaksWhole : KeeperValue S → ActState → List Fields → Fault → Type 0
-  BreaksWhole new b rows OutOfMemory = Ties g new b
-  BreaksWhole new b rows Input = Ties g new b
+  abbrev pub BreaksWhole : Keeper S T g → ActState → List Fields → Fault → Type 0
+  BreaksWhole new b rows OutOfMemory = Ties new b
+  BreaksWhole new b rows Input = Ties new b
   BreaksWhole new b rows Store =
-      (Stores g new b ⊎ ((c : ActState) × ImportsAll rows b c × StoresEither g new b c)) × (new.book ≡ None)
+      (Stores new b ⊎ ((c : ActState) × ImportsAll rows b c × StoresEither new b c)) × (book_of new ≡ None)
   BreaksWhole new b rows Reopen = ⊥
   BreaksWhole new b rows Output = ⊥
 
   -- what a whole import of the rows of a text made of a keeper over a book, and told
-  abbrev pub LeavesWhole : KeeperValue S → ActState → List Fields → Result ImportReport ImportFault → Type 0
+  abbrev pub LeavesWhole : Keeper S T g → ActState → List Fields → Result ImportReport ImportFault → Type 0
   LeavesWhole new b rows (Ok report) = EndsWhole new b rows report report.stopped
   LeavesWhole new b rows (Err e) = BreaksWhole new b rows e.fault × (e.added ≡ 0) × (e.again ≡ 0)
 
   -- the same of known rows; where they aren't known, of some rows
-  abbrev pub ImportedWhole : KeeperValue S → ActState → Option (List Fields) → Result ImportReport ImportFault → Type 0
+  abbrev pub ImportedWhole : Keeper S T g → ActState → Option (List Fields) → Result ImportReport ImportFault → Type 0
   ImportedWhole new b known result = (rows : List Fields) × AreRows known rows × LeavesWhole new b rows result
 
   -- an import took all rows, and the transaction that showed the tables of the book after them was undone, as for want of memory
-  abbrev pub WasWholeUndone : KeeperValue S → ActState → List Fields → Type 0
-  WasWholeUndone new b rows = (c : ActState) × ImportsAll rows b c × WasUndone g (state g new.conn) (tables_of c)
+  abbrev pub WasWholeUndone : Keeper S T g → ActState → List Fields → Type 0
+  WasWholeUndone new b rows = (c : ActState) × ImportsAll rows b c × UndidTables new c
 
   -- What is known of the store's faults after a whole import of rows: hidden row numbers 1, 2, 3 and so on stay so; and then the
   -- store is reported to have failed only where it has, or where it undid the rows of the whole text.
-  pub record TellsWholeFaults (old new : KeeperValue S) (rows : List Fields) (result : Result ImportReport ImportFault) : Type 0 where
-    pub numbered : IfHeld g old new (λ b. StoresNumbers g old → StoresNumbers g new)
-    pub cause : IfHeld g old new
-        (λ b. StoresNumbers g old → IsStoreFault result → StoreFailed g old new ⊎ WasWholeUndone new b rows)
+  pub record TellsWholeFaults (old new : Keeper S T g) (rows : List Fields) (result : Result ImportReport ImportFault) : Type 0 where
+    pub numbered : IfHeld old new (λ b. StoresNumbers old → StoresNumbers new)
+    pub cause : IfHeld old new
+        (λ b. StoresNumbers old → IsStoreFault result → StoreFailed old new ⊎ WasWholeUndone new b rows)
 
   -- all that a whole import of rows promises
-  pub record RunsWhole (old new : KeeperValue S) (rows : List Fields) (result : Result ImportReport ImportFault) : Type 0 where
-    pub clean : WasClean g old new
+  pub record RunsWhole (old new : Keeper S T g) (rows : List Fields) (result : Result ImportReport ImportFault) : Type 0 where
+    pub clean : WasClean old new
     pub cause : IfErr result (λ e. HasCause e.fault ⊥)
-    pub left : IfHeld g old new (λ b. LeavesWhole new b rows result)
-    pub commits : CommitsOf g (ImportsAll rows) old new
+    pub left : IfHeld old new (λ b. LeavesWhole new b rows result)
+    pub commits : CommitsOf (ImportsAll rows) old new
     pub tells : TellsWholeFaults old new rows result
 
   -- a whole import of what a reader gives: there is a book or it is answered that there is none; what then stands, and why a
   -- fault came
-  pub record WholeOf {R : Type 0} (remaining : R → Option (List ℕ)) (old new : KeeperValue S) (was is : Watched R)
+  pub record WholeOf {R : Type 0} (remaining : R → Option (List ℕ)) (old new : Keeper S T g) (was is : Watched R)
       (done : Result ImportReport ImportFault) : Type 0 where
-    pub reopen : (old.book ≡ None) ↔ (done ≡ no_book)
-    pub unopened : old.book ≡ None → new ≡ old
-    pub imported : IfHeld g old new (λ b. ImportedWhole new b (option_map rows_of (watched_bytes remaining was)) done)
-    pub clean : WasClean g old new
+    pub reopen : (book_of old ≡ None) ↔ (done ≡ no_book)
+    pub unopened : book_of old ≡ None → new ≡ old
+    pub imported : IfHeld old new (λ b. ImportedWhole new b (option_map rows_of (watched_bytes remaining was)) done)
+    pub clean : WasClean old new
     -- the reader failed, or it gave more bytes than a text may have
-    pub cause : IsSome old.book → IfErr done (λ e. HasCause e.fault (HasJustFailed is ⊎ Passes (watched_bytes remaining was) 268435456))
+    pub cause : IsSome (book_of old) → IfErr done (λ e. HasCause e.fault (HasJustFailed is ⊎ Passes (watched_bytes remaining was) 268435456))
     pub bound : IfOk done (λ r. r.stopped ≡ None → IsWithin (watched_bytes remaining was) 268435456)
     -- interrupted reads were tried again, with 65,536 retries in all
     pub tries : TriesAnew was is done
     -- a crash leaves what it could leave before, or all rows of the text
-    pub commits : (rows : List Fields) × AreRows (option_map rows_of (watched_bytes remaining was)) rows × CommitsOf g (ImportsAll rows) old new
+    pub commits : (rows : List Fields) × AreRows (option_map rows_of (watched_bytes remaining was)) rows × CommitsOf (ImportsAll rows) old new
     pub tells : (rows : List Fields) × AreRows (option_map rows_of (watched_bytes remaining was)) rows × TellsWholeFaults old new rows done

@@ -3,6 +3,7 @@ ghost use Rattle.std.specs.Prelude.{◌≡◌, ◌↔◌, None, Err, IsSome, IfS
 ghost use Rattle.ob_command.specs.Fields.{IsRow};
 ghost use Rattle.ob_store.specs.Acting.{IsActStop};
 ghost use Rattle.ob_store.specs.Calls.{IfStored, TellsFaults, WasClean};
+ghost use Rattle.ob_store.specs.Keepers.{book_of};
 ghost use Rattle.ob_import.specs.Acting.{AddsRow};
 
 use ob_base::{Fault, Ref, Refusal, Stop};
@@ -18,14 +19,12 @@ pub(crate) fn act_row<S: Alter, T: Timeline>(
     keeper: &mut Keeper<S, T>,
     row: &Row,
 ) -> Result<bool, Stop>
-    requires { IsSome keeper.old.book }
+    requires { IsSome (book_of keeper.old) }
     ensures faults { IfErr result IsActStop }
-    ensures clean { WasClean S.Store keeper.old keeper.new }
-    ensures dropped { (keeper.new.book ≡ None) ↔ (result ≡ Err (Stop.Fault Fault.Store)) }
-    ensures acted { IfStored S.Store keeper.old keeper.new
-        (λ b. AddsRow S.Store keeper.new b row.now result) }
-    ensures tells { TellsFaults S.Store keeper.old keeper.new
-        (result ≡ Err (Stop.Fault Fault.Store)) }
+    ensures clean { WasClean keeper.old keeper.new }
+    ensures dropped { (book_of keeper.new ≡ None) ↔ (result ≡ Err (Stop.Fault Fault.Store)) }
+    ensures acted { IfStored keeper.old keeper.new (λ b. AddsRow keeper.new b row.now result) }
+    ensures tells { TellsFaults keeper.old keeper.new (result ≡ Err (Stop.Fault Fault.Store)) }
 {
     reached_law();
     let said = match command_in(row) {
@@ -49,7 +48,7 @@ pub(crate) fn command_in(row: &Row) -> Result<(Ref, Command), Refusal>
 
 /// The number of commands that the book has accepted.
 fn accepted_count<S: Alter, T: Timeline>(keeper: &Keeper<S, T>) -> u32
-    ensures { IfSome keeper.now.book (λ s. result ≡ s.accepted) }
+    ensures { IfSome (book_of keeper.now) (λ s. result ≡ s.accepted) }
 {
     match keeper.book() {
         Some(book) => book.accepted(),

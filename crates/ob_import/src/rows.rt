@@ -4,6 +4,7 @@ ghost use Rattle.ob_csv.specs.Rows.{TakesRow};
 ghost use Rattle.ob_csv.specs.RowReading.{rows_left};
 ghost use Rattle.ob_import.specs.Imports.{after_header};
 ghost use Rattle.ob_store.specs.Calls.{TellsFaults};
+ghost use Rattle.ob_store.specs.Keepers.{book_of};
 ghost use Rattle.ob_import.specs.Reports.{HasCause, IsStoreFault, Runs};
 
 use crate::acting::act_row;
@@ -24,11 +25,11 @@ pub(crate) fn import_rows<R: Read, S: Alter, T: Timeline, P: Progress>(
     keeper: &mut Keeper<S, T>,
     progress: &mut P,
 ) -> Result<ImportReport, ImportFault>
-    requires { IsSome keeper.old.book }
-    ensures runs { Runs S.Store after_header keeper.old keeper.new (rows_left R.remaining rows.old)
-        whole result }
+    requires { IsSome (book_of keeper.old) }
+    ensures runs { Runs after_header keeper.old keeper.new
+        (rows_left R.remaining rows.old) whole result }
     ensures some { whole ≡ false → IfOk result (λ _. rows_left R.remaining rows.old ≢ Some []) }
-    ensures tells { TellsFaults S.Store keeper.old keeper.new (IsStoreFault result) }
+    ensures tells { TellsFaults keeper.old keeper.new (IsStoreFault result) }
 {
     let mut tally = Tally { added: 0, again: 0 };
     let mut row = Row::new(alloc);

@@ -2,6 +2,7 @@
 ghost use Rattle.std.specs.Prelude.{◌≡◌, ◌↔◌, None, Some, Err, IsSome, IfErr};
 ghost use Rattle.ob_csv.specs.Rows.{rows_of};
 ghost use Rattle.ob_store.specs.Calls.{IfHeld, TellsFaults, WasClean};
+ghost use Rattle.ob_store.specs.Keepers.{book_of};
 ghost use Rattle.ob_import.specs.Imports.{ImportedAgain, ImportsMakeOneThing};
 ghost use Rattle.ob_import.specs.Reports.{HasCause, ImportOf, Imported, IsStoreFault, no_book};
 
@@ -34,16 +35,17 @@ pub fn import_text<S: Alter, T: Timeline>(
     text: &[u8],
     keeper: &mut Keeper<S, T>,
 ) -> Result<ImportReport, ImportFault>
-    ensures reopen { (keeper.old.book ≡ None) ↔ (result ≡ no_book) }
-    ensures unopened { keeper.old.book ≡ None → keeper.new ≡ keeper.old }
-    ensures imported { IfHeld S.Store keeper.old keeper.new
-        (λ b. Imported S.Store keeper.new b (Some (rows_of text.now)) result) }
-    ensures clean { WasClean S.Store keeper.old keeper.new }
-    ensures dropped { IsSome keeper.old.book → (keeper.new.book ≡ None) ↔ IsStoreFault result }
-    ensures cause { IsSome keeper.old.book → IfErr result (λ e. HasCause e.fault ⊥) }
+    ensures reopen { (book_of keeper.old ≡ None) ↔ (result ≡ no_book) }
+    ensures unopened { book_of keeper.old ≡ None → keeper.new ≡ keeper.old }
+    ensures imported { IfHeld keeper.old keeper.new (λ b. Imported keeper.new b
+        (Some (rows_of text.now)) result) }
+    ensures clean { WasClean keeper.old keeper.new }
+    ensures dropped { IsSome (book_of keeper.old) → (book_of keeper.new ≡ None)
+        ↔ IsStoreFault result }
+    ensures cause { IsSome (book_of keeper.old) → IfErr result (λ e. HasCause e.fault ⊥) }
     // no fault of the store is forgotten, row numbers and the step limit stay, and a store fault has
     // a cause
-    ensures tells { TellsFaults S.Store keeper.old keeper.new (IsStoreFault result) }
+    ensures tells { TellsFaults keeper.old keeper.new (IsStoreFault result) }
 {
     if keeper.book().is_none() {
         return Err(fault_without_book());
@@ -65,7 +67,7 @@ pub fn import<R: Read, S: Alter, T: Timeline>(
     reader: &mut Watched<R>,
     keeper: &mut Keeper<S, T>,
 ) -> Result<ImportReport, ImportFault>
-    ensures { ImportOf S.Store R.remaining keeper.old keeper.new reader.old reader.new result }
+    ensures { ImportOf R.remaining keeper.old keeper.new reader.old reader.new result }
 {
     import_with_progress(alloc, reader, keeper, &mut Silent)
 }
@@ -82,7 +84,7 @@ pub fn import_with_progress<R: Read, S: Alter, T: Timeline, P: Progress>(
     keeper: &mut Keeper<S, T>,
     progress: &mut P,
 ) -> Result<ImportReport, ImportFault>
-    ensures { ImportOf S.Store R.remaining keeper.old keeper.new reader.old reader.new result }
+    ensures { ImportOf R.remaining keeper.old keeper.new reader.old reader.new result }
 {
     if keeper.book().is_none() {
         return Err(fault_without_book());

@@ -4,6 +4,7 @@ ghost use Rattle.ob_csv.specs.Rows.{Fields, rows_of};
 ghost use Rattle.ob_csv.specs.RowReading.{rows_left};
 ghost use Rattle.ob_import.specs.Imports.{after_header};
 ghost use Rattle.ob_import.specs.Whole.{AreLines, AreLinesOf, IsEndOf, IsLine, RunsWhole, WholeOf};
+ghost use Rattle.ob_store.specs.Keepers.{book_of};
 
 use crate::acting::command_in;
 use crate::gather::gather;
@@ -36,7 +37,7 @@ pub fn import_whole<R: Read, S: Alter, T: Timeline, P: Progress>(
     keeper: &mut Keeper<S, T>,
     progress: &mut P,
 ) -> Result<ImportReport, ImportFault>
-    ensures { WholeOf S.Store R.remaining keeper.old keeper.new reader.old reader.new result }
+    ensures { WholeOf R.remaining keeper.old keeper.new reader.old reader.new result }
 {
     if keeper.book().is_none() {
         return Err(fault_without_book());
@@ -58,8 +59,8 @@ fn import_lines<S: Alter, T: Timeline, P: Progress>(
     keeper: &mut Keeper<S, T>,
     progress: &mut P,
 ) -> Result<ImportReport, ImportFault>
-    requires { IsSome keeper.old.book }
-    ensures { RunsWhole S.Store keeper.old keeper.new (rows_of text.items) result }
+    requires { IsSome (book_of keeper.old) }
+    ensures { RunsWhole keeper.old keeper.new (rows_of text.items) result }
 {
     // the first line is the header
     let total = lines_of(text.as_slice()).saturating_sub(1);

@@ -7,7 +7,8 @@ use Rattle.ob_base.specs.declared.stop.Fault.TheVariants.{OutOfMemory, Store, Re
 use Rattle.ob_sql_read.specs.Reading.{IsReadFault}
 use Rattle.ob_state.specs.State.{BookState}
 use Rattle.ob_book.specs.Views.{annual_table_of_book}
-use Rattle.ob_store.specs.Keepers.{Ghosts, KeeperValue}
+use Rattle.ob_store.specs.Keepers.{Ghosts}
+use Rattle.ob_store.specs.declared.keeper.Keeper.{Keeper}
 use Rattle.ob_stream.specs.declared.watched.Watched.{Watched}
 use Rattle.ob_jobs.specs.Making.{MakingOf}
 use Rattle.ob_selections.specs.IndexText.{indices_text_of}
@@ -43,10 +44,10 @@ other_than_output stop (inl (inr store)) output = let same = sym store ∙ outpu
 other_than_output stop (inr bad) output = let same = sym bad ∙ output in cc
 
 -- no making of a book does
-pub making_other : {S : Type 0} (g : Ghosts S) (old new : KeeperValue S) (first : List ℕ) (days : ℕ) (zone : List ℕ) (stop : Stop)
-    → MakingOf g old new first days zone (Err stop) → stop ≢ Fault Output
-making_other g old new first days zone stop making output =
-    let so = subst (λ s. MakingOf g old new first days zone (Err s)) output making in absurd so.created
+pub making_other : {S T : Type 0} {g : Ghosts S} (old new : Keeper S T g) (first : List ℕ) (days : ℕ) (zone : List ℕ) (stop : Stop)
+    → MakingOf old new first days zone (Err stop) → stop ≢ Fault Output
+making_other old new first days zone stop making output =
+    let so = subst (λ s. MakingOf old new first days zone (Err s)) output making in absurd so.created
 
 -- the work gave nothing but its text, and that was told
 pub ended : {W : Type 0} (Works : Result ⊤ Stop → Type 0) (text : List ℕ) (contents : W → Option (List ℕ)) (old new : Watched W)

@@ -16,9 +16,11 @@ use Rattle.ob_stream.specs.declared.watched.Watched.{Watched}
 use Rattle.ob_state.specs.State.{BookState}
 use Rattle.ob_book.specs.Acts.{ActState}
 use Rattle.ob_sql_rows.specs.Steps.{IsStoreFault}
-use Rattle.ob_store.specs.Keepers.{Ghosts, KeeperValue, Ties}
+use Rattle.ob_store.specs.Keepers.{Ghosts, Ties, book_of}
 use Rattle.ob_store.specs.Keeping.{IsBookAfter}
-use Rattle.ob_store.specs.MovingOut.{IsBookAfterMoves, Numbered, Takes, TakesAll, FailsAmong, TakesFront, HandsOver, MovesOut, StoreFails, all_moves}
+use Rattle.ob_store.specs.MovingOut.{IsBookAfterMoves, Numbered, Takes, TakesAll, FailsAmong, TakesFront, HandsOver, all_moves}
+use Rattle.ob_store.specs.Calls.{MovesOut, StoreFails}
+use Rattle.ob_store.specs.declared.keeper.Keeper.{Keeper}
 use Rattle.ob_jobs.specs.declared.lines.Lines.{Lines}
 use Rattle.ob_jobs.specs.Text.{lines_of, moved_line}
 use Rattle.ob_jobs.specs.Exporting.{AppendsPart, PutsLine, Exports}
@@ -175,18 +177,18 @@ module _ {W : Type 0} (contents : W → Option (List ℕ)) where
   failed_text was is all Reopen it = it.failed.1
   failed_text was is all Input it = it.failed.1
 
-  module _ {S : Type 0} (g : Ghosts S) (old new : KeeperValue S) (b : ActState) where
+  module _ {S T : Type 0} {g : Ghosts S} (old new : Keeper S T g) (b : ActState) where
     abbrev Ended : Lines W → Lines W → AFault → Type 0
-    Ended was is fault = Exports contents g old new (bytes_of was) is.writer.now b (lines_of (all_moves b)) (Err (Fault fault))
+    Ended was is fault = Exports contents old new (bytes_of was) is.writer.now b (lines_of (all_moves b)) (Err (Fault fault))
 
-    by_sink : (was is : Lines W) (fault : AFault) → Failed fault was is (all_moves b) → Ties g new b → new.book ≡ old.book → Ended was is fault
+    by_sink : (was is : Lines W) (fault : AFault) → Failed fault was is (all_moves b) → Ties new b → book_of new ≡ book_of old → Ended was is fault
     by_sink was is OutOfMemory text ties same = (text, ties, same)
     by_sink was is Output text ties same = (text.0, text.1, ties, same)
     by_sink was is Store text ties same = absurd text
     by_sink was is Reopen text ties same = absurd text
     by_sink was is Input text ties same = absurd text
 
-    by_store : (was is : Lines W) (fault : AFault) → AppendsPart (bytes_of was) (bytes_of is) (lines_of (all_moves b)) → StoreFails g old new b fault → Ended was is fault
+    by_store : (was is : Lines W) (fault : AFault) → AppendsPart (bytes_of was) (bytes_of is) (lines_of (all_moves b)) → StoreFails old new b fault → Ended was is fault
     by_store was is OutOfMemory text fails = (text, fails.0, fails.1)
     by_store was is Store text fails = (text, fails.0, fails.1, fails.2)
     by_store was is Output text fails = absurd fails
@@ -194,14 +196,14 @@ module _ {W : Type 0} (contents : W → Option (List ℕ)) where
     by_store was is Input text fails = absurd fails
 
     -- what was handed over was written
-    pub exported : (was is : Lines W) (r : Result ℕ Stop) → MovesOut g puts old new was is b r → Exports contents g old new (bytes_of was) is.writer.now b (lines_of (all_moves b)) r
+    pub exported : (was is : Lines W) (r : Result ℕ Stop) → MovesOut puts old new was is b r → Exports contents old new (bytes_of was) is.writer.now b (lines_of (all_moves b)) r
     exported was is (Ok n) h = (all_lines was is (all_moves b) h.0, h.1, h.2, h.3)
     exported was is (Err (Refused refusal)) h = absurd h
     exported was is (Err (Fault fault)) (inl h) = by_sink was is fault (failed_text was is (all_moves b) fault h.0) h.1 h.2
     exported was is (Err (Fault fault)) (inr h) = by_store was is fault (front_text was is (all_moves b) h.0) h.1
 
     -- behind a head
-    pub headed : (was mid : Option (List ℕ)) (is : Watched W) (head text : List ℕ) (r : Result ℕ Stop) → Appends was mid head → Exports contents g old new mid is b text r → Exports contents g old new was is b (head ++ text) r
+    pub headed : (was mid : Option (List ℕ)) (is : Watched W) (head text : List ℕ) (r : Result ℕ Stop) → Appends was mid head → Exports contents old new mid is b text r → Exports contents old new was is b (head ++ text) r
     headed was mid is head text (Ok n) before h = (Appends-trans _ _ _ _ _ before h.0, h.1, h.2, h.3)
     headed was mid is head text (Err (Refused refusal)) before h = absurd h
     headed was mid is head text (Err (Fault OutOfMemory)) before h = (headed_part was mid (watched_bytes contents is) head text before h.0, h.1, h.2)

@@ -10,8 +10,9 @@ use Rattle.ob_stream.specs.Watching.{HasJustFailed, watched_bytes}
 use Rattle.ob_stream.specs.declared.watched.Watched.{Watched}
 use Rattle.ob_book.specs.Acts.{ActState}
 use Rattle.ob_store.specs.Calls.{StoreFailed}
-use Rattle.ob_store.specs.Keepers.{Ghosts, KeeperValue, Stores, Ties}
+use Rattle.ob_store.specs.Keepers.{Ghosts, Stores, Ties, book_of}
 use Rattle.ob_store.specs.MovingOut.{all_moves}
+use Rattle.ob_store.specs.declared.keeper.Keeper.{Keeper}
 
 -- a first part of the text was written
 pub record AppendsPart (old new : Option (List ℕ)) (text : List ℕ) : Type 0 where
@@ -31,14 +32,14 @@ module _ {W : Type 0} (contents : W → Option (List ℕ)) where
 
   -- behind these bytes the text was written whole, with what the book's commands moved, so many amounts; or a first part of
   -- it, and then memory was refused, the store failed for a cause, or the writer's last call did. The store keeps the book as before
-  abbrev pub Exports : {S : Type 0} → Ghosts S → KeeperValue S → KeeperValue S → Option (List ℕ) → Watched W → ActState → List ℕ → Result ℕ Stop → Type 0
-  Exports g old new was is b text (Ok count) =
-      Appends was (watched_bytes contents is) text × (count ≡ length (all_moves b)) × Ties g new b × (new.book ≡ old.book)
-  Exports g old new was is b text (Err (Refused refusal)) = ⊥
-  Exports g old new was is b text (Err (Fault OutOfMemory)) =
-      AppendsPart was (watched_bytes contents is) text × Ties g new b × (new.book ≡ old.book)
-  Exports g old new was is b text (Err (Fault Store)) =
-      AppendsPart was (watched_bytes contents is) text × Stores g new b × (new.book ≡ None) × StoreFailed g old new
-  Exports g old new was is b text (Err (Fault Output)) =
-      AppendsPart was (watched_bytes contents is) text × HasJustFailed is × Ties g new b × (new.book ≡ old.book)
-  Exports g old new was is b text (Err (Fault fault)) = ⊥
+  abbrev pub Exports : {S T : Type 0} {g : Ghosts S} → Keeper S T g → Keeper S T g → Option (List ℕ) → Watched W → ActState → List ℕ → Result ℕ Stop → Type 0
+  Exports old new was is b text (Ok count) =
+      Appends was (watched_bytes contents is) text × (count ≡ length (all_moves b)) × Ties new b × (book_of new ≡ book_of old)
+  Exports old new was is b text (Err (Refused refusal)) = ⊥
+  Exports old new was is b text (Err (Fault OutOfMemory)) =
+      AppendsPart was (watched_bytes contents is) text × Ties new b × (book_of new ≡ book_of old)
+  Exports old new was is b text (Err (Fault Store)) =
+      AppendsPart was (watched_bytes contents is) text × Stores new b × (book_of new ≡ None) × StoreFailed old new
+  Exports old new was is b text (Err (Fault Output)) =
+      AppendsPart was (watched_bytes contents is) text × HasJustFailed is × Ties new b × (book_of new ≡ book_of old)
+  Exports old new was is b text (Err (Fault fault)) = ⊥

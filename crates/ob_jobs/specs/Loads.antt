@@ -6,12 +6,11 @@ use Rattle.ob_base.specs.declared.stop.Fault.{Fault as AFault}
 use Rattle.ob_stream.specs.Watching.{watched_inner}
 use Rattle.ob_stream.specs.declared.watched.Watched.{Watched}
 use Rattle.ob_sql_rows.specs.declared.table.Table.{Table}
-use Rattle.ob_store.specs.Calls.{CommitsNothing, OnOldTables, OnTables, ReadAnswers, WasClean}
-use Rattle.ob_store.specs.Crashing.{Loads}
-use Rattle.ob_store.specs.Keepers.{Ghosts, KeeperValue}
+use Rattle.ob_store.specs.Calls.{Audited, CommitsNothing, Loads, OnOldTables, OnTables, Outdated, ReadAnswers, WasClean}
+use Rattle.ob_store.specs.Keepers.{Ghosts, book_of}
 use Rattle.ob_store.specs.Keeping.{IsBookAfter}
-use Rattle.ob_store.specs.Loading.{Audited}
-use Rattle.ob_store.specs.Versions.{IsLoadFault, Outdated}
+use Rattle.ob_store.specs.Versions.{IsLoadFault}
+use Rattle.ob_store.specs.declared.keeper.Keeper.{Keeper}
 
 -- something was opened and this was done with it; or it could not be opened, which is answered as this fault, and nothing was done
 abbrev pub OpensThen : {A I X : Type 0} → (A → Option I → A → Type 0) → AFault → (Watched I → Result X Stop → Type 0) → Type 0
@@ -27,21 +26,21 @@ TakesThen {A} {I} takes Works Nothing was is done =
     ((stop : Stop) × takes was (Err stop) is × (done ≡ Err stop) × Nothing)
     ⊎ ((taken : I) × (mid : A) × takes was (Ok taken) mid × Works taken mid done)
 
-module _ {S : Type 0} (g : Ghosts S) where
+module _ {S T : Type 0} {g : Ghosts S} where
   -- a comparison of the tables with the commands in them: what differs, or why there is no answer
-  pub record AuditOf (old new : KeeperValue S) (found : Result (Option Table) Stop) : Type 0 where
-    pub kept : OnOk found (new.book ≡ old.book)
-    pub dropped : IfErr found (IsBookAfter old.book new.book)
+  pub record AuditOf (old new : Keeper S T g) (found : Result (Option Table) Stop) : Type 0 where
+    pub kept : OnOk found (book_of new ≡ book_of old)
+    pub dropped : IfErr found (IsBookAfter (book_of old) (book_of new))
     pub stops : IfErr found IsLoadFault
-    pub clean : WasClean g old new
-    pub survives : CommitsNothing g old new
-    pub answers : ReadAnswers g old new found
-    pub audited : OnTables g old new (Audited g old new found)
-    pub outdated : OnOldTables g old new (Outdated g old new found)
+    pub clean : WasClean old new
+    pub survives : CommitsNothing old new
+    pub answers : ReadAnswers old new found
+    pub audited : OnTables old new (Audited old new found)
+    pub outdated : OnOldTables old new (Outdated old new found)
 
   -- the book of the tables was loaded, and then this was done over it; or none was loaded, which is answered, and nothing was done
-  abbrev pub LoadsThen : {X : Type 0} → (KeeperValue S → Result X Stop → Type 0) → Type 0 → KeeperValue S → KeeperValue S
+  abbrev pub LoadsThen : {X : Type 0} → (Keeper S T g → Result X Stop → Type 0) → Type 0 → Keeper S T g → Keeper S T g
       → Result X Stop → Type 0
   LoadsThen Works Nothing old new done =
-      ((stop : Stop) × Loads g old new (Err stop) × (done ≡ Err stop) × Nothing)
-      ⊎ ((mid : KeeperValue S) × Loads g old mid (Ok tt) × Works mid done)
+      ((stop : Stop) × Loads old new (Err stop) × (done ≡ Err stop) × Nothing)
+      ⊎ ((mid : Keeper S T g) × Loads old mid (Ok tt) × Works mid done)

@@ -23,7 +23,7 @@ pub fn audit_book<S: Alter, T: Timeline, W: Write>(
     keeper: &mut Keeper<S, T>,
     writer: &mut Watched<W>,
 ) -> Result<(), Unfinished>
-    ensures { AuditsBook S.Store W.contents keeper.old keeper.new writer.old writer.new result }
+    ensures { AuditsBook W.contents keeper.old keeper.new writer.old writer.new result }
 {
     end_of_audit(run_audit(alloc, keeper, writer))
 }
@@ -40,8 +40,8 @@ pub fn run_audit<S: Alter, T: Timeline, W: Write>(
     keeper: &mut Keeper<S, T>,
     writer: &mut Watched<W>,
 ) -> Result<Option<Table>, Stop>
-    ensures { TellsAfter (AuditOf S.Store keeper.old keeper.new) audit_line W.contents writer.old
-        writer.new result }
+    ensures { TellsAfter (AuditOf keeper.old keeper.new) audit_line W.contents writer.old writer.new
+        result }
 {
     let found = audit_tables(keeper)?;
     let line = line_of(alloc, found)?;
@@ -51,7 +51,7 @@ pub fn run_audit<S: Alter, T: Timeline, W: Write>(
 
 /// The comparison.
 fn audit_tables<S: Alter, T: Timeline>(keeper: &mut Keeper<S, T>) -> Result<Option<Table>, Stop>
-    ensures { AuditOf S.Store keeper.old keeper.new result }
+    ensures { AuditOf keeper.old keeper.new result }
 {
     keeper.audit()
 }

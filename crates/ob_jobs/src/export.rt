@@ -25,8 +25,8 @@ pub fn export_from_book<O: OpenOutput, S: Alter, T: Timeline, P: Progress, W: Wr
     progress: &mut P,
     writer: &mut Watched<W>,
 ) -> Result<(), Unfinished>
-    ensures { ExportsFromBook S.Store O.opens O.Output.contents W.contents keeper.old keeper.new
-        output.old output.new writer.old writer.new result }
+    ensures { ExportsFromBook O.opens O.Output.contents W.contents keeper.old keeper.new output.old
+        output.new writer.old writer.new result }
 {
     keeper.load_with_progress(progress)?;
     let Some(opened) = output.open() else {
@@ -49,8 +49,8 @@ pub fn run_export<F: Write, S: Alter, T: Timeline, W: Write>(
     file: &mut Watched<F>,
     writer: &mut Watched<W>,
 ) -> Result<u64, Stop>
-    ensures { TellsExport S.Store F.contents W.contents keeper.old keeper.new file.old file.new
-        writer.old writer.new result }
+    ensures { TellsExport F.contents W.contents keeper.old keeper.new file.old file.new writer.old
+        writer.new result }
 {
     let rows = export_rows(alloc, keeper, file)?;
     let line = line_of(alloc, rows)?;
@@ -64,7 +64,7 @@ fn export_rows<F: Write, S: Alter, T: Timeline>(
     keeper: &mut Keeper<S, T>,
     file: &mut Watched<F>,
 ) -> Result<u64, Stop>
-    ensures { ExportOf S.Store F.contents keeper.old keeper.new file.old file.new result }
+    ensures { ExportOf F.contents keeper.old keeper.new file.old file.new result }
 {
     export_moves(alloc, keeper, file)
 }

@@ -32,8 +32,8 @@ pub fn import_into_book<O: OpenInput, S: Alter, T: Timeline, P: Progress, W: Wri
     progress: &mut P,
     writer: &mut Watched<W>,
 ) -> Result<(), Unfinished>
-    ensures { ImportsIntoBook S.Store O.opens O.Input.remaining W.contents keeper.old keeper.new
-        input.old input.new writer.old writer.new result }
+    ensures { ImportsIntoBook O.opens O.Input.remaining W.contents keeper.old keeper.new input.old
+        input.new writer.old writer.new result }
 {
     keeper.load_with_progress(progress)?;
     let Some(opened) = input.open() else {

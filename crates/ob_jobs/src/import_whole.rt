@@ -27,8 +27,8 @@ pub fn import_whole_into_book<O: OpenInput, S: Alter, T: Timeline, P: Progress, 
     progress: &mut P,
     writer: &mut Watched<W>,
 ) -> Result<(), Unfinished>
-    ensures { ImportsWholeIntoBook S.Store O.opens O.Input.remaining W.contents keeper.old
-        keeper.new input.old input.new writer.old writer.new result }
+    ensures { ImportsWholeIntoBook O.opens O.Input.remaining W.contents keeper.old keeper.new
+        input.old input.new writer.old writer.new result }
 {
     keeper.load_with_progress(progress)?;
     let Some(opened) = input.open() else {

@@ -3,6 +3,7 @@ ghost use Rattle.std.specs.Prelude.{◌≡◌};
 ghost use Rattle.ob_jobs.specs.Books.{PrintsIndices};
 ghost use Rattle.ob_jobs.specs.Tabling.{HasTable, indices_text};
 ghost use Rattle.ob_jobs.specs.Telling.{Tells};
+ghost use Rattle.ob_store.specs.Keepers.{book_of};
 
 use crate::ending::end_of_job;
 use crate::tell::tell;
@@ -25,8 +26,7 @@ pub fn print_indices<S: Alter, T: Timeline, P: Progress, W: Write>(
     progress: &mut P,
     writer: &mut Watched<W>,
 ) -> Result<(), Unfinished>
-    ensures { PrintsIndices S.Store W.contents by longest keeper.old keeper.new writer.old writer.new
-        result }
+    ensures { PrintsIndices W.contents by longest keeper.old keeper.new writer.old writer.new result }
 {
     keeper.load_with_progress(progress)?;
     end_of_job(run_indices(alloc, keeper, by, longest, writer))
@@ -46,8 +46,8 @@ pub fn run_indices<S: Alter, T: Timeline, W: Write>(
     longest: Second,
     writer: &mut Watched<W>,
 ) -> Result<(), Stop>
-    ensures { Tells (HasTable keeper.now.book) (λ _. indices_text by longest keeper.now.book)
-        W.contents writer.old writer.new result }
+    ensures { Tells (HasTable (book_of keeper.now)) (λ _. indices_text by longest
+        (book_of keeper.now)) W.contents writer.old writer.new result }
 {
     let Some(book) = keeper.book() else {
         return Err(Stop::Fault(Fault::Reopen));

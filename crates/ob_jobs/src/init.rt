@@ -22,7 +22,7 @@ pub fn make_book<S: Alter, T: Timeline, W: Write>(
     zone: &[u8],
     writer: &mut Watched<W>,
 ) -> Result<(), Unfinished>
-    ensures { MakesBook S.Store W.contents keeper.old keeper.new first.now days zone.now writer.old
+    ensures { MakesBook W.contents keeper.old keeper.new first.now days zone.now writer.old
         writer.new result }
 {
     end_of_job(run_init(keeper, first, days, zone, writer))
@@ -41,7 +41,7 @@ pub fn run_init<S: Alter, T: Timeline, W: Write>(
     zone: &[u8],
     writer: &mut Watched<W>,
 ) -> Result<(), Stop>
-    ensures { Tells (MakingOf S.Store keeper.old keeper.new first.now days zone.now)
+    ensures { Tells (MakingOf keeper.old keeper.new first.now days zone.now)
         (λ _. created_line) W.contents writer.old writer.new result }
 {
     make_tables(keeper, first, days, zone)?;
@@ -55,7 +55,7 @@ fn make_tables<S: Alter, T: Timeline>(
     days: u16,
     zone: &[u8],
 ) -> Result<(), Stop>
-    ensures { MakingOf S.Store keeper.old keeper.new first.now days zone.now result }
+    ensures { MakingOf keeper.old keeper.new first.now days zone.now result }
 {
     keeper.create(first, days, zone)
 }

@@ -7,6 +7,7 @@ ghost use Rattle.ob_rows.specs.Rows.{interruption_rows};
 ghost use Rattle.ob_rows.specs.RowText.{row_lines};
 ghost use Rattle.ob_jobs.specs.Books.{WritesRowsOfBook};
 ghost use Rattle.ob_jobs.specs.Rows.{RowsOfBook, TellsRows, WritesRows, WritesRowsOf};
+ghost use Rattle.ob_store.specs.Keepers.{book_of};
 
 use crate::ending::end_of_job;
 use crate::export::line_of;
@@ -33,8 +34,8 @@ pub fn interruptions_from_book<O: OpenOutput, S: Alter, T: Timeline, P: Progress
     progress: &mut P,
     writer: &mut Watched<W>,
 ) -> Result<(), Unfinished>
-    ensures { WritesRowsOfBook S.Store O.opens O.Output.contents W.contents keeper.old keeper.new
-        output.old output.new writer.old writer.new result }
+    ensures { WritesRowsOfBook O.opens O.Output.contents W.contents keeper.old keeper.new output.old
+        output.new writer.old writer.new result }
 {
     keeper.load_with_progress(progress)?;
     let Some(opened) = output.open() else {
@@ -59,8 +60,8 @@ pub fn run_interruptions<F: Write, S: Alter, T: Timeline, W: Write>(
     file: &mut Watched<F>,
     writer: &mut Watched<W>,
 ) -> Result<u64, Stop>
-    ensures { TellsRows F.contents W.contents keeper.now.book file.old file.new
-        writer.old writer.new result }
+    ensures { TellsRows F.contents W.contents (book_of keeper.now) file.old file.new writer.old
+        writer.new result }
 {
     let rows = write_book(alloc, keeper, file)?;
     let line = line_of(alloc, rows)?;
@@ -74,7 +75,7 @@ fn write_book<F: Write, S: Alter, T: Timeline>(
     keeper: &Keeper<S, T>,
     file: &mut Watched<F>,
 ) -> Result<u64, Stop>
-    ensures { RowsOfBook F.contents keeper.now.book file.old file.new result }
+    ensures { RowsOfBook F.contents (book_of keeper.now) file.old file.new result }
 {
     let Some(book) = keeper.book() else {
         return Err(Stop::Fault(Fault::Reopen));

@@ -19,7 +19,7 @@ pub fn migrate_book<S: Alter, T: Timeline, W: Write>(
     keeper: &mut Keeper<S, T>,
     writer: &mut Watched<W>,
 ) -> Result<(), Unfinished>
-    ensures { MigratesBook S.Store W.contents keeper.old keeper.new writer.old writer.new result }
+    ensures { MigratesBook W.contents keeper.old keeper.new writer.old writer.new result }
 {
     end_of_job(run_migrate(keeper, writer))
 }
@@ -36,7 +36,7 @@ pub fn run_migrate<S: Alter, T: Timeline, W: Write>(
     keeper: &mut Keeper<S, T>,
     writer: &mut Watched<W>,
 ) -> Result<bool, Stop>
-    ensures { Tells (MigrationOf S.Store keeper.old keeper.new) migrate_line W.contents writer.old
+    ensures { Tells (MigrationOf keeper.old keeper.new) migrate_line W.contents writer.old
         writer.new result }
 {
     let migrated = migrate_tables(keeper)?;
@@ -46,7 +46,7 @@ pub fn run_migrate<S: Alter, T: Timeline, W: Write>(
 
 /// The migration.
 fn migrate_tables<S: Alter, T: Timeline>(keeper: &mut Keeper<S, T>) -> Result<bool, Stop>
-    ensures { MigrationOf S.Store keeper.old keeper.new result }
+    ensures { MigrationOf keeper.old keeper.new result }
 {
     keeper.migrate()
 }

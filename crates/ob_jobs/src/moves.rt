@@ -6,6 +6,7 @@ ghost use Rattle.ob_stream.specs.Watching.{HasJustFailed, watched_bytes};
 ghost use Rattle.ob_store.specs.Calls.{CommitsNothing, IfHeld, IfStored, WasClean};
 ghost use Rattle.ob_store.specs.Keeping.{IsBookAfter};
 ghost use Rattle.ob_store.specs.MovingOut.{all_moves};
+ghost use Rattle.ob_store.specs.Keepers.{book_of};
 ghost use Rattle.ob_jobs.specs.Text.{lines_of, moves_text};
 ghost use Rattle.ob_jobs.specs.Exporting.{Exports};
 
@@ -25,15 +26,14 @@ fn write_lines<W: Write, S: Alter, T: Timeline>(
     writer: &mut Watched<W>,
     retries: Retries,
 ) -> Result<u64, Stop>
-    requires { IsSome keeper.old.book }
+    requires { IsSome (book_of keeper.old) }
     ensures opened { result ≢ Err (Stop.Fault Fault.Reopen) }
     ensures output { result ≡ Err (Stop.Fault Fault.Output) → HasJustFailed writer.new }
-    ensures kept { OnOk result (keeper.new.book ≡ keeper.old.book) }
-    ensures dropped { IfErr result (IsBookAfter keeper.old.book keeper.new.book) }
-    ensures clean { WasClean S.Store keeper.old keeper.new }
-    ensures survives { CommitsNothing S.Store keeper.old keeper.new }
-    ensures exports { IfStored S.Store keeper.old keeper.new
-        (λ b. Exports W.contents S.Store keeper.old keeper.new
+    ensures kept { OnOk result (book_of keeper.new ≡ book_of keeper.old) }
+    ensures dropped { IfErr result (IsBookAfter (book_of keeper.old) (book_of keeper.new)) }
+    ensures clean { WasClean keeper.old keeper.new }
+    ensures survives { CommitsNothing keeper.old keeper.new }
+    ensures exports { IfStored keeper.old keeper.new (λ b. Exports W.contents keeper.old keeper.new
         (watched_bytes W.contents writer.old) writer.new b (lines_of (all_moves b)) result) }
     ensures tries { (left : ℕ) × Tries (retries_left retries) left writer.old writer.new result }
 {
@@ -51,16 +51,15 @@ pub fn export_moves<W: Write, S: Alter, T: Timeline>(
     keeper: &mut Keeper<S, T>,
     writer: &mut Watched<W>,
 ) -> Result<u64, Stop>
-    ensures reopen { (keeper.old.book ≡ None) ↔ (result ≡ Err (Stop.Fault Fault.Reopen)) }
-    ensures unopened { keeper.old.book ≡ None → (keeper.new ≡ keeper.old)
+    ensures reopen { (book_of keeper.old ≡ None) ↔ (result ≡ Err (Stop.Fault Fault.Reopen)) }
+    ensures unopened { book_of keeper.old ≡ None → (keeper.new ≡ keeper.old)
         × (writer.new ≡ writer.old) }
     ensures output { result ≡ Err (Stop.Fault Fault.Output) → HasJustFailed writer.new }
-    ensures kept { OnOk result (keeper.new.book ≡ keeper.old.book) }
-    ensures dropped { IfErr result (IsBookAfter keeper.old.book keeper.new.book) }
-    ensures clean { WasClean S.Store keeper.old keeper.new }
-    ensures survives { CommitsNothing S.Store keeper.old keeper.new }
-    ensures exports { IfHeld S.Store keeper.old keeper.new
-        (λ b. Exports W.contents S.Store keeper.old keeper.new
+    ensures kept { OnOk result (book_of keeper.new ≡ book_of keeper.old) }
+    ensures dropped { IfErr result (IsBookAfter (book_of keeper.old) (book_of keeper.new)) }
+    ensures clean { WasClean keeper.old keeper.new }
+    ensures survives { CommitsNothing keeper.old keeper.new }
+    ensures exports { IfHeld keeper.old keeper.new (λ b. Exports W.contents keeper.old keeper.new
         (watched_bytes W.contents writer.old) writer.new b (moves_text b) result) }
     // interrupted writes are tried again, 65,536 times in all
     ensures tries { TriesAnew writer.old writer.new result }

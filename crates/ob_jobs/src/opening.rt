@@ -36,10 +36,11 @@ pub trait OpenOutput {
 }
 
 /// A server of a loaded book, which has not taken its port yet.
-pub trait ServeBook<S: Alter, T: Timeline> {
+pub trait ServeBook {
     ghost use Rattle.std.specs.Prelude.{⊤, Result};
     ghost use Rattle.ob_base.specs.declared.stop.Stop.{Stop as AStop};
-    ghost use Rattle.ob_store.specs.Keepers.{KeeperValue};
+    ghost use Rattle.ob_store.specs.Keepers.{Ghosts};
+    ghost use Rattle.ob_store.specs.declared.keeper.Keeper.{Keeper as AKeeper};
 
     /// The port, once it is taken.
     type Port: Drop;
@@ -48,13 +49,17 @@ pub trait ServeBook<S: Alter, T: Timeline> {
     ghost takes: { Self → Result Self.Port AStop → Self → Type 0 };
 
     /// What serving at a port changes in the server and in the keeper, whether it fails or not.
-    ghost serves: { Self → Self.Port → KeeperValue S → Result ⊤ AStop → KeeperValue S → Self → Type 0 };
+    ghost serves: { {S T : Type 0} {g : Ghosts S} → Self → Self.Port → AKeeper S T g → Result ⊤ AStop → AKeeper S T g → Self → Type 0 };
 
     /// Takes the port.
     fn take(&mut self) -> Result<Self::Port, Stop>
         ensures { takes self.old result self.new };
 
     /// Serves the book at the port.
-    fn serve(&mut self, port: Self::Port, keeper: &mut Keeper<S, T>) -> Result<(), Stop>
+    fn serve<S: Alter, T: Timeline>(
+        &mut self,
+        port: Self::Port,
+        keeper: &mut Keeper<S, T>,
+    ) -> Result<(), Stop>
         ensures { serves self.old port keeper.old result keeper.new self.new };
 }

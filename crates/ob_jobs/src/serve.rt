@@ -9,13 +9,12 @@ use ob_store::{Alter, Keeper};
 use ob_sweep::Timeline;
 
 /// Loads a book, then takes the port, and serves the book there.
-pub fn serve_book<V: ServeBook<S, T>, S: Alter, T: Timeline, P: Progress>(
+pub fn serve_book<V: ServeBook, S: Alter, T: Timeline, P: Progress>(
     keeper: &mut Keeper<S, T>,
     server: &mut V,
     progress: &mut P,
 ) -> Result<(), Unfinished>
-    ensures { ServesBook S.Store V.takes V.serves keeper.old keeper.new server.old server.new
-        result }
+    ensures { ServesBook V.takes V.serves keeper.old keeper.new server.old server.new result }
 {
     keeper.load_with_progress(progress)?;
     let port = server.take()?;

@@ -3,6 +3,7 @@ ghost use Rattle.std.specs.Prelude.{◌≡◌};
 ghost use Rattle.ob_jobs.specs.Books.{PrintsBook};
 ghost use Rattle.ob_jobs.specs.Tabling.{HasTable, table_text};
 ghost use Rattle.ob_jobs.specs.Telling.{Tells};
+ghost use Rattle.ob_store.specs.Keepers.{book_of};
 
 use crate::ending::end_of_job;
 use crate::tell::tell;
@@ -20,7 +21,7 @@ pub fn print_book<S: Alter, T: Timeline, P: Progress, W: Write>(
     progress: &mut P,
     writer: &mut Watched<W>,
 ) -> Result<(), Unfinished>
-    ensures { PrintsBook S.Store W.contents keeper.old keeper.new writer.old writer.new result }
+    ensures { PrintsBook W.contents keeper.old keeper.new writer.old writer.new result }
 {
     keeper.load_with_progress(progress)?;
     end_of_job(run_table(keeper, writer))
@@ -36,8 +37,8 @@ pub fn run_table<S: Alter, T: Timeline, W: Write>(
     keeper: &Keeper<S, T>,
     writer: &mut Watched<W>,
 ) -> Result<(), Stop>
-    ensures { Tells (HasTable keeper.now.book) (λ _. table_text keeper.now.book) W.contents
-        writer.old writer.new result }
+    ensures { Tells (HasTable (book_of keeper.now)) (λ _. table_text (book_of keeper.now))
+        W.contents writer.old writer.new result }
 {
     let Some(book) = keeper.book() else {
         return Err(Stop::Fault(Fault::Reopen));

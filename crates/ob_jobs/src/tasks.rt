@@ -91,7 +91,7 @@ impl<I, O, V> Task<'_, I, O, V> {
 pub fn run_task<
     I: OpenInput + Drop,
     O: OpenOutput + Drop,
-    V: ServeBook<S, T> + Drop,
+    V: ServeBook + Drop,
     S: Alter,
     T: Timeline,
     P: Progress,
@@ -103,7 +103,7 @@ pub fn run_task<
     progress: &mut P,
     writer: &mut Watched<W>,
 ) -> Result<(), Unfinished>
-    ensures { RunsTask S.Store I.opens I.Input.remaining O.opens O.Output.contents V.takes V.serves
+    ensures { RunsTask I.opens I.Input.remaining O.opens O.Output.contents V.takes V.serves
         W.contents task.entry keeper.old keeper.new writer.old writer.new result }
 {
     match task {

@@ -19,13 +19,14 @@ use Rattle.ob_sql_read.specs.Version.{HasVersion}
 use Rattle.ob_record.specs.Naming.{IsReferenced}
 use Rattle.ob_record.specs.Reached.{IsReached, ReachedAreFew}
 use Rattle.ob_record.specs.Tables.{Shows, tables_of}
-use Rattle.ob_store.specs.Calls.{OnOldTables, OnTables, ReadAnswers}
+use Rattle.ob_store.specs.Calls.{Audited, OnOldTables, OnTables, Outdated, ReadAnswers}
 use Rattle.ob_store.specs.Finding.{Differs, IsBookOf}
-use Rattle.ob_store.specs.Keepers.{Ghosts, IsClean, KeeperValue}
-use Rattle.ob_store.specs.Loading.{Audited, Finding, trees_in}
-use Rattle.ob_store.specs.Versions.{IsLoadFault, Outdated}
+use Rattle.ob_store.specs.Keepers.{Ghosts, IsClean}
+use Rattle.ob_store.specs.Loading.{Finding, trees_in}
+use Rattle.ob_store.specs.Versions.{IsLoadFault}
 use Rattle.ob_store.proofs.Counting.{rows_counted}
 use Rattle.ob_store.proofs.KeeperLaws.{shows_old, states_old}
+use Rattle.ob_store.specs.declared.keeper.Keeper.{Keeper}
 use Rattle.ob_lists.specs.Going.{AuditsOne}
 use Rattle.ob_lists.specs.Standing.{Stands}
 use Rattle.ob_lists.proofs.Standings.{load_fault, old_book, told_old}
@@ -37,10 +38,10 @@ not_two row first_day days zone same one =
     let two : number 2 ≡ number 1 = ap (λ r. column r 1) is ∙ one in
     absurd (let n : ◌≡◌ {A = ℕ} 2 1 = cc in omega (arith, n))
 
-module _ {S : Type 0} (g : Ghosts S) (few : ReachedAreFew) (old new : KeeperValue S) where
+module _ {S T : Type 0} {g : Ghosts S} (few : ReachedAreFew) (old new : Keeper S T g) where
   -- the tables that are shown are those of a book
-  module _ (b : ActState) (reached : IsReached b) (valid : AllByRecursion IsReferenced b.accepted) (rows : Differs (trees_in g old.conn) b None) where
-    book_there : IsBookOf (trees_in g old.conn) b
+  module _ (b : ActState) (reached : IsReached b) (valid : AllByRecursion IsReferenced b.accepted) (rows : Differs (trees_in g old.parts.conn) b None) where
+    book_there : IsBookOf (trees_in g old.parts.conn) b
     book_there = record {
       reached = reached;
       valid = valid;
@@ -49,19 +50,19 @@ module _ {S : Type 0} (g : Ghosts S) (few : ReachedAreFew) (old new : KeeperValu
       commands = rows_counted Two b.accepted (rows Command);
     }
 
-    not_outdated : HasVersion 1 (trees_in g old.conn) → ⊥
+    not_outdated : HasVersion 1 (trees_in g old.parts.conn) → ⊥
     not_outdated has =
         let same = one_permutation _ _ (IsPermutation-trans _ _ _ (IsPermutation-sym _ _ has.1) (rows Meta)) in
         not_two (has.0) (day_text b.book.period.first_day) (day_count b.book.period) b.book.period.zone same has.2
 
     -- none of them differs
-    none_differs : (found : Option Table) → Finding (trees_in g old.conn) found → found ≡ None
+    none_differs : (found : Option Table) → Finding (trees_in g old.parts.conn) found → found ≡ None
     none_differs None finding = refl
     none_differs (Some table) finding =
         let same : b ≡ finding.0 = finding.2 b book_there in
-        absurd (finding.3.0 (subst (λ (x : ActState). Shows (trees_in g old.conn) table (tables_of x table)) same (rows table)))
+        absurd (finding.3.0 (subst (λ (x : ActState). Shows (trees_in g old.parts.conn) table (tables_of x table)) same (rows table)))
 
-    never_refused : (r : Refusal) → Audited g old new (Err (Refused r)) → ⊥
+    never_refused : (r : Refusal) → Audited old new (Err (Refused r)) → ⊥
     never_refused (BadField at) told = told
     never_refused UnknownName told = told
     never_refused NameTaken told = told
@@ -81,9 +82,9 @@ module _ {S : Type 0} (g : Ghosts S) (few : ReachedAreFew) (old new : KeeperValu
     never_refused BadLife told = told
     never_refused (OldVersion version) told = not_outdated told.1.0
 
-  module _ (Is : ActState → Type 0) (clean : IsClean g new) (was_clean : IsClean g old) where
-    pub audits_one : (r : Result (Option Table) Stop) → ReadAnswers g old new r → IfErr r IsLoadFault → OnTables g old new (Audited g old new r)
-        → OnOldTables g old new (Outdated g old new r) → Stands g Is old → AuditsOne g Is old new r
+  module _ (Is : ActState → Type 0) (clean : IsClean new) (was_clean : IsClean old) where
+    pub audits_one : (r : Result (Option Table) Stop) → ReadAnswers old new r → IfErr r IsLoadFault → OnTables old new (Audited old new r)
+        → OnOldTables old new (Outdated old new r) → Stands Is old → AuditsOne Is old new r
     audits_one (Ok found) answers stops audited outdated (inl it) =
         let settled = it.ties.kept.kept.settled was_clean (answers.live clean tt) in
         none_differs it.book it.ties.kept.reached it.ties.kept.valid settled.holds.rows found (audited clean settled.schema).1
@@ -91,8 +92,8 @@ module _ {S : Type 0} (g : Ghosts S) (few : ReachedAreFew) (old new : KeeperValu
         let settled = it.keeps.kept.settled was_clean (answers.live clean tt) in
         none_differs it.book it.keeps.reached it.keeps.valid settled.holds.rows found (audited clean settled.schema).1
     audits_one (Ok found) answers stops audited outdated (inr (inr it)) =
-        let was = old_book g old new Is it in
-        absurd (outdated clean (shows_old g old was.0 was.2 was_clean (answers.live clean tt)))
+        let was = old_book old new Is it in
+        absurd (outdated clean (shows_old old was.0 was.2 was_clean (answers.live clean tt)))
     audits_one (Err (Refused r)) answers stops audited outdated (inl it) =
         let settled = it.ties.kept.kept.settled was_clean (answers.live clean tt) in
         absurd (never_refused it.book it.ties.kept.reached it.ties.kept.valid settled.holds.rows r (audited clean settled.schema))
@@ -100,7 +101,12 @@ module _ {S : Type 0} (g : Ghosts S) (few : ReachedAreFew) (old new : KeeperValu
         let settled = it.keeps.kept.settled was_clean (answers.live clean tt) in
         absurd (never_refused it.book it.keeps.reached it.keeps.valid settled.holds.rows r (audited clean settled.schema))
     audits_one (Err (Refused r)) answers stops audited outdated (inr (inr it)) =
-        let was = old_book g old new Is it in
+        let was = old_book old new Is it in
         let live = answers.live clean tt in
+<<<<<<< HEAD
         told_old g old new Is (Option Table) r (states_old g old was.0 was.2 was_clean live) it (outdated clean (shows_old g old was.0 was.2 was_clean live))
     audits_one (Err (Fault f)) answers stops audited outdated stands = load_fault g old new Is f stops was_clean clean answers stands
+=======
+        told_old old new Is (Option Table) r (states_old old was.0 was.2 was_clean live) it (outdated clean (shows_old old was.0 was.2 was_clean live))
+    audits_one (Err (Fault f)) answers stops audited outdated stands = load_fault old new Is f stops
+>>>>>>> b4b8cd67 (Above the storage layer no contract names the store, its tree or its schema (crates above ob_store are not checked yet))

@@ -7,31 +7,36 @@ use Rattle.ob_base.specs.declared.stop.Fault.TheVariants.{OutOfMemory, Store, Re
 use Rattle.ob_base.specs.declared.stop.Refusal.TheVariants.{BadField, UnknownName, NameTaken, OutOfPeriod, UnknownEntry, Stale, Withdrawn, UnknownCustomer, BadService, RefConflict, Full, MarkedAlready, NotMarked, UnknownCause, BadPeriod, BadBook, BadLife, OldVersion}
 use Rattle.ob_time.specs.Calendar.{Calendar}
 use Rattle.ob_book.specs.Acts.{start}
-use Rattle.ob_store.specs.Calls.{LeftAll}
-use Rattle.ob_store.specs.Crashing.{LoadLaw, Loads}
-use Rattle.ob_store.specs.Creating.{Created}
-use Rattle.ob_store.specs.Keepers.{Ghosts, HoldsNothing, IsClean, KeeperValue, Stores}
+use Rattle.ob_store.specs.Calls.{Created, LeftAll, Loads}
+use Rattle.ob_store.specs.Crashing.{LoadLaw}
+use Rattle.ob_store.specs.Keepers.{Ghosts, HoldsNothing, IsClean, Stores}
 use Rattle.ob_store.proofs.Restarting.{Settles, begun_after, nothing_after, stored_after}
+use Rattle.ob_store.specs.declared.keeper.Keeper.{Keeper}
 use Rattle.ob_lists.specs.Going.{Begun, Finds, Restarts}
 use Rattle.ob_lists.specs.Standing.{Stands}
 use Rattle.ob_lists.proofs.Restarting.{none}
 use Rattle.ob_lists.proofs.Standings.{finds, loads_one}
 
-module _ {S R : Type 0} (g : Ghosts S) (h : Ghosts R) (settles : Settles g) (settles_new : Settles h) (law : LoadLaw h) (old made : KeeperValue S) (next new : KeeperValue R)
-    (held : HoldsNothing g old) (it : Restarts g h made next) (found : Result ⊤ Stop) (loads : Loads h next new found) (clean : IsClean h new) where
+module _ {S T R U : Type 0} {g : Ghosts S} {h : Ghosts R} (settles : Settles g) (settles_new : Settles h) (law : LoadLaw h) (old made : Keeper S T g) (next new : Keeper R U h)
+    (held : HoldsNothing old) (it : Restarts made next) (found : Result ⊤ Stop) (loads : Loads next new found) (clean : IsClean new) where
   -- a book that the store keeps after the crash
-  finds_kept : (p : Calendar) → Stores h next (start p) → Finds h (λ x. x ≡ start p) new found
+  finds_kept : (p : Calendar) → Stores next (start p) → Finds (λ x. x ≡ start p) new found
   finds_kept p keeps =
+<<<<<<< HEAD
       let stands : Stands h (λ x. x ≡ start p) next =
       inl (record { book = start p; is = refl; ties = record { kept = keeps; book = none g h settles_new made next it (start p) } }) in
       finds h (λ x. x ≡ start p) next new found stands loads (loads_one h next new (λ x. x ≡ start p) law found loads clean stands)
+=======
+      finds (λ x. x ≡ start p) next new found (loads_one next new (λ x. x ≡ start p) law found loads clean
+      (inl (record { book = start p; is = refl; ties = record { kept = keeps; book = none settles_new made next it (start p) } })))
+>>>>>>> b4b8cd67 (Above the storage layer no contract names the store, its tree or its schema (crates above ob_store are not checked yet))
 
-  finds_none : LeftAll g old made → IsErr found
-  finds_none left = nothing_after g h settles settles_new old made next new held it.opens found loads clean left
+  finds_none : LeftAll old made → IsErr found
+  finds_none left = nothing_after settles settles_new old made next new held it.opens found loads clean left
 
-  pub begun : (first : List ℕ) (days : ℕ) (zone : List ℕ) (r : Result ⊤ Stop) → Created g old made first days zone r → Begun h first days zone r new found
+  pub begun : (first : List ℕ) (days : ℕ) (zone : List ℕ) (r : Result ⊤ Stop) → Created old made first days zone r → Begun first days zone r new found
   begun first days zone (Ok done) created =
-      (created.0, created.1, finds_kept created.0 (stored_after g h made next it.opens settles_new (start created.0) created.3.kept))
+      (created.0, created.1, finds_kept created.0 (stored_after made next it.opens settles_new (start created.0) created.3.kept))
   begun first days zone (Err (Refused (BadField at))) created = absurd created
   begun first days zone (Err (Refused UnknownName)) created = absurd created
   begun first days zone (Err (Refused NameTaken)) created = absurd created
@@ -52,7 +57,7 @@ module _ {S R : Type 0} (g : Ghosts S) (h : Ghosts R) (settles : Settles g) (set
   begun first days zone (Err (Refused (OldVersion version))) created = absurd created
   begun first days zone (Err (Fault OutOfMemory)) created = finds_none created.0
   begun first days zone (Err (Fault Store)) created =
-      let may = begun_after g h settles settles_new old made next new held it.opens found loads clean first days zone created.0 in
+      let may = begun_after settles settles_new old made next new held it.opens found loads clean first days zone created.0 in
       (may.0, may.1, elim may.2 [ inl keeps ↦ inl (finds_kept may.0 keeps) | inr none ↦ inr none ])
   begun first days zone (Err (Fault Reopen)) created = absurd created
   begun first days zone (Err (Fault Input)) created = absurd created

@@ -5,7 +5,8 @@ use Rattle.ob_base.specs.declared.stop.Fault.TheVariants.{OutOfMemory, Store, Re
 use Rattle.ob_stream.specs.Watching.{HasJustFailed}
 use Rattle.ob_stream.specs.declared.watched.Watched.{Watched}
 use Rattle.ob_book.specs.Acts.{ActState, act}
-use Rattle.ob_store.specs.Keepers.{Ghosts, KeeperValue, StoresEither, Ties}
+use Rattle.ob_store.specs.Keepers.{Ghosts, StoresEither, Ties, book_of}
+use Rattle.ob_store.specs.declared.keeper.Keeper.{Keeper}
 use Rattle.ob_http_requests.specs.Continue.{interim_text}
 use Rattle.ob_http_requests.specs.Message.{IsCutBody, Message, path_of}
 use Rattle.ob_http_requests.specs.Reading.{AfterHead}
@@ -49,17 +50,17 @@ input_head : {R : Type 0} (reader : Watched R) (rest left : Option (List ℕ)) (
 input_head reader rest left part (inl failed) = so_far_head rest left part failed.1
 input_head reader rest left part (inr cut) = cut_head rest part cut
 
-module _ {S : Type 0} (g : Ghosts S) (new : KeeperValue S) where
+module _ {S T : Type 0} {g : Ghosts S} (new : Keeper S T g) where
   -- ---- over a book
   module _ (c : ActState) (Is : ActState → Type 0) where
-    one : (x : ActState) → Is x → Ties g new x → Stands g Is new
+    one : (x : ActState) → Is x → Ties new x → Stands Is new
     one x is ties = inl (record { book = x; is = is; ties = ties })
 
-    either : (x y : ActState) → Is x → Is y → StoresEither g new x y → new.book ≡ None → Stands g Is new
+    either : (x y : ActState) → Is x → Is y → StoresEither new x y → book_of new ≡ None → Stands Is new
     either x y is other keeps none = inr (inl (record { book = x; other = y; is = is; other_is = other; keeps = keeps; lost = none }))
 
     short_stands : (method : Method) (route : Option Route) (body : List ℕ) → ((x : ActState) → LeavesShort c method route body x → Is x)
-        → StandsShort g new c method route body → Stands g Is new
+        → StandsShort new c method route body → Stands Is new
     short_stands method None body may h = absurd h
     short_stands methods.Get (Some route) body may ties = one c (may c refl) ties
     short_stands methods.Post (Some routes.Commands) body may (inl ties) = one c (may c (inl refl)) ties
@@ -72,9 +73,9 @@ module _ {S : Type 0} (g : Ghosts S) (new : KeeperValue S) where
     short_stands methods.Post (Some (routes.View view)) body may h = absurd h
 
     lost_stands : (method : Method) (route : Option Route) (body : List ℕ) → ((x : ActState) → LeavesLost c method route body x → Is x)
-        → StandsLost g new c method route body → Stands g Is new
+        → StandsLost new c method route body → Stands Is new
     lost_stands method None body may h = absurd h
-    lost_stands methods.Get (Some route) body may (keeps, none) = one c (may c refl) (tie_none g new new c keeps none)
+    lost_stands methods.Get (Some route) body may (keeps, none) = one c (may c refl) (tie_none new new c keeps none)
     lost_stands methods.Post (Some routes.Commands) body may (a, says, keeps, none) =
         either c (act c a) (may c (a, says, inl refl)) (may (act c a) (a, says, inr refl)) keeps none
     lost_stands methods.Post (Some routes.Import) body may (added, again, (d, later, a, begins, next, keeps, none)) =
@@ -84,7 +85,7 @@ module _ {S : Type 0} (g : Ghosts S) (new : KeeperValue S) where
     lost_stands methods.Post (Some (routes.View view)) body may h = absurd h
 
     unanswered_stands : (m : Message) (closes : Bool) (fault : Fault) → ((x : ActState) → LeavesUnanswered c m fault x → Is x)
-        → Answered g new c m closes (Err fault) → Stands g Is new
+        → Answered new c m closes (Err fault) → Stands Is new
     unanswered_stands m closes OutOfMemory may h = short_stands m.method (route_of (path_of m.target)) m.body may h
     unanswered_stands m closes Store may h = lost_stands m.method (route_of (path_of m.target)) m.body may h
     unanswered_stands m closes Reopen may h = absurd h
@@ -92,8 +93,8 @@ module _ {S : Type 0} (g : Ghosts S) (new : KeeperValue S) where
     unanswered_stands m closes Output may h = absurd h
 
     module _ {R W : Type 0} (reader : Watched R) (writer : Watched W) (allowed : ℕ) (rest left : Option (List ℕ)) (part : List ℕ) where
-      unanswered : (fault : Fault) → ((x : ActState) → IsUnanswered rest part c fault x → Is x) → BreaksAnswer g writer allowed rest part new (Some c) fault
-          → Stands g Is new
+      unanswered : (fault : Fault) → ((x : ActState) → IsUnanswered rest part c fault x → Is x) → BreaksAnswer writer allowed rest part new (Some c) fault
+          → Stands Is new
       unanswered fault may h = unanswered_stands h.message (ends allowed h.message) fault (λ x leaves. may x (record {
         message = h.message;
         left = h.left;
@@ -105,10 +106,10 @@ module _ {S : Type 0} (g : Ghosts S) (new : KeeperValue S) where
       })) h.leaves
 
       -- a reply could not be written whole
-      unwritten : ((x : ActState) → IsUnwritten allowed rest part c x → Is x) → BreaksReply g allowed rest part new (Some c) → Stands g Is new
+      unwritten : ((x : ActState) → IsUnwritten allowed rest part c x → Is x) → BreaksReply allowed rest part new (Some c) → Stands Is new
       unwritten may h = by_next h.next h.answers h.stands
         where
-          by_next : (y : Option ActState) → AnswersAt (Some c) h.message (ends allowed h.message) h.reply y → Has g new y → Stands g Is new
+          by_next : (y : Option ActState) → AnswersAt (Some c) h.message (ends allowed h.message) h.reply y → Has g new y → Stands Is new
           by_next None answers stands = absurd answers
           by_next (Some d) answers stands = one d (may d (record {
             message = h.message;
@@ -122,7 +123,7 @@ module _ {S : Type 0} (g : Ghosts S) (new : KeeperValue S) where
           })) stands.0
 
       pub breaks_stand : (fault : Fault) → ((x : ActState) → BreaksStream allowed rest part c fault x → Is x)
-          → Breaks g reader writer allowed rest left part new (Some c) fault → Stands g Is new
+          → Breaks reader writer allowed rest left part new (Some c) fault → Stands Is new
       breaks_stand OutOfMemory may (inl reading) = one c (may c (inl (reading.0, refl))) reading.1.0
       breaks_stand OutOfMemory may (inr answer) = unanswered OutOfMemory (λ x it. may x (inr it)) answer
       breaks_stand Store may answer = unanswered Store may answer
@@ -134,7 +135,7 @@ module _ {S : Type 0} (g : Ghosts S) (new : KeeperValue S) where
 
   -- ---- without one: whatever book there is stays
   module _ (law : BooklessAnswersStay) {R W : Type 0} (reader : Watched R) (writer : Watched W) (allowed : ℕ) (rest left : Option (List ℕ)) (part : List ℕ) (x : ActState) where
-    bookless_unwritten : BreaksReply g allowed rest part new None → IsUnwritten allowed rest part x x
+    bookless_unwritten : BreaksReply allowed rest part new None → IsUnwritten allowed rest part x x
     bookless_unwritten h = by_next h.next h.answers
       where
         by_next : (y : Option ActState) → AnswersAt None h.message (ends allowed h.message) h.reply y → IsUnwritten allowed rest part x x
@@ -150,7 +151,7 @@ module _ {S : Type 0} (g : Ghosts S) (new : KeeperValue S) where
           written = h.written;
         }
 
-    bookless_unanswered : BreaksAnswer g writer allowed rest part new None Reopen → IsUnanswered rest part x Reopen x
+    bookless_unanswered : BreaksAnswer writer allowed rest part new None Reopen → IsUnanswered rest part x Reopen x
     bookless_unanswered h = record {
       message = h.message;
       left = h.left;
@@ -161,7 +162,7 @@ module _ {S : Type 0} (g : Ghosts S) (new : KeeperValue S) where
       leaves = (h.leaves.1, refl);
     }
 
-    pub bookless_breaks : (fault : Fault) → Breaks g reader writer allowed rest left part new None fault → BreaksStream allowed rest part x fault x
+    pub bookless_breaks : (fault : Fault) → Breaks reader writer allowed rest left part new None fault → BreaksStream allowed rest part x fault x
     bookless_breaks OutOfMemory (inl reading) = inl (reading.0, refl)
     bookless_breaks OutOfMemory (inr answer) = let no : OutOfMemory ≡ Reopen = answer.leaves.0 in absurd cc
     bookless_breaks Store answer = let no : Store ≡ Reopen = answer.leaves.0 in absurd cc

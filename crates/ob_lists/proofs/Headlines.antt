@@ -9,7 +9,8 @@ use Rattle.ob_post.specs.declared.Dim.{Dim}
 use Rattle.ob_index.specs.declared.figures.Which.{Which}
 use Rattle.ob_state.specs.State.{BookState}
 use Rattle.ob_book.specs.Acts.{ActState, PeriodStays, Referenced, act, acts, is_accepted, take_on}
-use Rattle.ob_store.specs.Keepers.{Ghosts, IsClean, KeeperValue, Ties}
+use Rattle.ob_store.specs.Keepers.{Ghosts, IsClean, Ties, book_of}
+use Rattle.ob_store.specs.declared.keeper.Keeper.{Keeper}
 use Rattle.ob_headline.specs.Headline.{HasNoAmount, IsHeadline}
 use Rattle.ob_headline.specs.declared.figures.Shown.{Shown}
 use Rattle.ob_lists.specs.Standing.{MayBe, Stands, Told}
@@ -35,11 +36,11 @@ may_be_of_period stays b (t ∷ before) x may =
     let on = goes_on b x t before may in
     ap (λ s. s.book.period) on.3 ∙ acts_period stays on.0 on.2 ∙ may_be_of_period stays b before on.0 on.1
 
-module _ {S : Type 0} (g : Ghosts S) (stays : PeriodStays) (holds : ToldLaw) (b : ActState) (told : List Told) (k : KeeperValue S) (dim : Dim) (key : ℕ)
+module _ {S T : Type 0} {g : Ghosts S} (stays : PeriodStays) (holds : ToldLaw) (b : ActState) (told : List Told) (k : Keeper S T g) (dim : Dim) (key : ℕ)
     (which : Which) where
   -- a book that the calls may have led to, and that is tied to the keeper
-  of_one : (x : ActState) → MayBe b told x → Ties g k x → (shown : Shown) → IsHeadline x dim key which shown
-      → IsShownAfter g b told k dim key which shown
+  of_one : (x : ActState) → MayBe b told x → Ties k x → (shown : Shown) → IsHeadline x dim key which shown
+      → IsShownAfter b told k dim key which shown
   of_one x may ties shown headline = record {
     book = x;
     may_be = may;
@@ -50,12 +51,12 @@ module _ {S : Type 0} (g : Ghosts S) (stays : PeriodStays) (holds : ToldLaw) (b 
   }
 
   -- the keeper has no book, so none is shown
-  not_shown : (s : Shown) → k.book ≡ None → IsNone (Some s) ↔ HasNoAmount k.book dim key → IsShownAfter g b told k dim key which s
+  not_shown : (s : Shown) → book_of k ≡ None → IsNone (Some s) ↔ HasNoAmount (book_of k) dim key → IsShownAfter b told k dim key which s
   not_shown s lost none = absurd (true≢false (none.1 (subst (λ (o : Option BookState). HasNoAmount o dim key) (sym lost) tt)))
 
-  pub shows : (result : Result (Option Shown) Stop) → ((y : ActState) → Ties g k y → IfOk result (λ s. IfSome s (IsHeadline y dim key which)))
-      → IfOk result (λ s. IsNone s ↔ HasNoAmount k.book dim key) → Stands g (MayBe b told) k
-      → IfOk result (λ s. IfSome s (IsShownAfter g b told k dim key which))
+  pub shows : (result : Result (Option Shown) Stop) → ((y : ActState) → Ties k y → IfOk result (λ s. IfSome s (IsHeadline y dim key which)))
+      → IfOk result (λ s. IsNone s ↔ HasNoAmount (book_of k) dim key) → Stands (MayBe b told) k
+      → IfOk result (λ s. IfSome s (IsShownAfter b told k dim key which))
   shows (Err stop) headline none stands = tt
   shows (Ok None) headline none stands = tt
   shows (Ok (Some s)) headline none (inl it) = of_one it.book it.is it.ties s (headline it.book it.ties)
@@ -64,6 +65,7 @@ module _ {S : Type 0} (g : Ghosts S) (stays : PeriodStays) (holds : ToldLaw) (b 
   shows (Ok (Some s)) headline none (inr (inr (inr it))) = not_shown s it.lost none
 
   -- the book that a load found
+<<<<<<< HEAD
   found_shows : (old : KeeperValue S) (result : Result (Option Shown) Stop) (x : ActState) → MayBe b told x → Ties g k x → k.book ≡ Some x.book
       → ((y : ActState) → Ties g k y → IfOk result (λ s. IfSome s (IsHeadline y dim key which)))
       → IfOk result (λ s. IsNone s ↔ HasNoAmount k.book dim key) → IfErr result (λ stop. stop ≡ out_of_memory)
@@ -80,12 +82,33 @@ module _ {S : Type 0} (g : Ghosts S) (stays : PeriodStays) (holds : ToldLaw) (b 
       → IfOk result (λ s. IsNone s ↔ HasNoAmount k.book dim key) → IfErr result (λ stop. stop ≡ out_of_memory)
       → (old : KeeperValue S) (done : ⊤) → LoadsOne g (MayBe b told) old k (Ok done) → LoadsAndShows g b told k dim key which old result
   loaded_shows result headline none fault old done found = found_shows old result found.0 found.1 found.2 found.3 headline none fault
+=======
+  found_shows : (result : Result (Option Shown) Stop) (x : ActState) → MayBe b told x → Ties k x → book_of k ≡ Some x.book
+      → ((y : ActState) → Ties k y → IfOk result (λ s. IfSome s (IsHeadline y dim key which)))
+      → IfOk result (λ s. IsNone s ↔ HasNoAmount (book_of k) dim key) → IfErr result (λ stop. stop ≡ out_of_memory)
+      → LoadsAndShows b told k dim key which result
+  found_shows (Ok (Some s)) x may ties has headline none fault = of_one x may ties s (headline x ties)
+  found_shows (Ok None) x may ties has headline none fault =
+      subst (λ (q : Calendar). ¬ (IsKey (day_count q) dim key)) (may_be_of_period stays b told x may)
+      (subst (λ (o : Option BookState). HasNoAmount o dim key) has (none.0 refl))
+  found_shows (Err stop) x may ties has headline none fault =
+      subst (λ (s : Stop). Finds (MayBe b told) k (Err s)) (sym fault) tt
+
+  pub loaded_shows : (result : Result (Option Shown) Stop)
+      → ((y : ActState) → Ties k y → IfOk result (λ s. IfSome s (IsHeadline y dim key which)))
+      → IfOk result (λ s. IsNone s ↔ HasNoAmount (book_of k) dim key) → IfErr result (λ stop. stop ≡ out_of_memory)
+      → (old : Keeper S T g) (done : ⊤) → LoadsOne (MayBe b told) old k (Ok done) → LoadsAndShows b told k dim key which result
+  loaded_shows result headline none fault old done found = found_shows result found.0 found.1 found.2 found.3 headline none fault
+
+  pub stopped_shows : (old : Keeper S T g) (stop : Stop) → LoadsOne (MayBe b told) old k (Err stop) → LoadsAndShows b told k dim key which (Err stop)
+  stopped_shows old stop found = finds (MayBe b told) old k (Err stop) found
+>>>>>>> b4b8cd67 (Above the storage layer no contract names the store, its tree or its schema (crates above ob_store are not checked yet))
 
 -- a list of calls that began with a new book
-pub goes_from : {S R : Type 0} (g : Ghosts S) (h : Ghosts R) (b : ActState) (told : List Told) (first : KeeperValue R) (old : KeeperValue S)
-    → Stands h (MayBe b []) first → Goes h g told first old → IsClean g old → Stands g (MayBe b told) old
-goes_from g h b told first old begun goes clean =
-    subst (λ (all : List Told). Stands g (MayBe b all) old) (append-nil told) (goes.stands clean b [] begun)
+pub goes_from : {S T R U : Type 0} {g : Ghosts S} {h : Ghosts R} (b : ActState) (told : List Told) (first : Keeper R U h) (old : Keeper S T g)
+    → Stands (MayBe b []) first → Goes told first old → IsClean old → Stands (MayBe b told) old
+goes_from b told first old begun goes clean =
+    subst (λ (all : List Told). Stands (MayBe b all) old) (append-nil told) (goes.stands clean b [] begun)
 
 -- where what is shown after a load is lacking, memory was refused
 pub without_memory : {X Has : Type 0} (Stops : Stop → Type 0) (r : Result X Stop) → Has → IfErr r (λ stop. stop ≡ out_of_memory)

@@ -6,7 +6,8 @@ use Rattle.ob_base.specs.declared.stop.Fault.{Fault}
 use Rattle.ob_base.specs.declared.stop.Fault.TheVariants.{OutOfMemory, Store, Reopen, Input, Output}
 use Rattle.ob_stream.specs.declared.watched.Watched.{Watched}
 use Rattle.ob_book.specs.Acts.{ActState, Referenced, act, acts}
-use Rattle.ob_store.specs.Keepers.{Ghosts, IsClean, KeeperValue, Ties}
+use Rattle.ob_store.specs.Keepers.{Ghosts, IsClean, Ties, book_of}
+use Rattle.ob_store.specs.declared.keeper.Keeper.{Keeper}
 use Rattle.ob_http_requests.specs.Message.{Message}
 use Rattle.ob_http_routes.specs.Answers.{BooklessAnswersStay}
 use Rattle.ob_desk.specs.Crashes.{IsLeft}
@@ -42,16 +43,16 @@ lost_by_desk (Err unserved.Listener) P lost is = absurd cc
 lost_by_desk (Err unserved.Store) P lost is = lost.1 refl
 lost_by_desk (Err unserved.Reopen) P lost is = absurd cc
 
-module _ {S : Type 0} (g : Ghosts S) (old new : KeeperValue S) (b : ActState) (before : List Told) where
+module _ {S T : Type 0} {g : Ghosts S} (old new : Keeper S T g) (b : ActState) (before : List Told) where
   -- some commands more than a book that there may be, of which this is told
   module _ (t : Told) (c : ActState) (may : (commands : List Referenced) → MayBe b (t ∷ before) (acts c commands)) where
-    tied : (done : List Referenced) → Ties g new (acts c done) → Stands g (MayBe b (t ∷ before)) new
+    tied : (done : List Referenced) → Ties new (acts c done) → Stands (MayBe b (t ∷ before)) new
     tied done ties = inl (record { book = acts c done; is = may done; ties = ties })
 
-    left_stands : (fault : Option Fault) → IsLeft g new c fault → (fault ≡ Some Store → new.book ≡ None) → Stands g (MayBe b (t ∷ before)) new
+    left_stands : (fault : Option Fault) → IsLeft new c fault → (fault ≡ Some Store → book_of new ≡ None) → Stands (MayBe b (t ∷ before)) new
     left_stands None (done, ties) lost = tied done ties
     left_stands (Some OutOfMemory) (done, ties) lost = tied done ties
-    left_stands (Some Store) (done, inl keeps) lost = tied done (tie_none g old new (acts c done) keeps (lost refl))
+    left_stands (Some Store) (done, inl keeps) lost = tied done (tie_none old new (acts c done) keeps (lost refl))
     left_stands (Some Store) (done, inr (a, keeps)) lost = inr (inl (record {
       book = acts c done;
       other = act (acts c done) a;
@@ -65,24 +66,24 @@ module _ {S : Type 0} (g : Ghosts S) (old new : KeeperValue S) (b : ActState) (b
     left_stands (Some Output) (done, ties) lost = tied done ties
 
   -- the streams of a listener
-  pub desk_stands : (r : Result ⊤ Unserved) → LeavesKeeper g old new r → IsClean g new → Stands g (MayBe b before) old
-      → Stands g (MayBe b (served ∷ before)) new
-  desk_stands r leaves clean stands = elim (by_book g old new (MayBe b before) old.book refl stands) [
+  pub desk_stands : (r : Result ⊤ Unserved) → LeavesKeeper old new r → IsClean new → Stands (MayBe b before) old
+      → Stands (MayBe b (served ∷ before)) new
+  desk_stands r leaves clean stands = elim (by_book old new (MayBe b before) (book_of old) refl stands) [
     | inl none ↦
-        stands_as g new (MayBe b before) (MayBe b (served ∷ before)) (λ x is. (x, is, [], refl)) (unmoved g old new (MayBe b before) (leaves.unopened none) stands)
+        stands_as new (MayBe b before) (MayBe b (served ∷ before)) (λ x is. (x, is, [], refl)) (unmoved old new (MayBe b before) (leaves.unopened none) stands)
     | inr it ↦
         left_stands served it.0 (λ commands. (it.0, it.1, commands, refl)) (last_fault r) (leaves.left clean it.0 it.2 it.3)
-        (λ is. lost_by_desk r (new.book ≡ None) (leaves.dropped it.3) is)
+        (λ is. lost_by_desk r (book_of new ≡ None) (leaves.dropped it.3) is)
   ]
 
   -- a stream
-  module _ (law : BooklessAnswersStay) (bytes had has : Option (List ℕ)) (unopened : old.book ≡ None → new ≡ old) (clean : IsClean g new) where
-    to_its_end : (done : Served) → Serves g bytes had has old new done.requests → Stands g (MayBe b before) old
-        → Stands g (MayBe b (told_by_stream bytes had has (Ok done) ++ before)) new
-    to_its_end done run stands = elim (by_book g old new (MayBe b before) old.book refl stands) [
+  module _ (law : BooklessAnswersStay) (bytes had has : Option (List ℕ)) (unopened : book_of old ≡ None → new ≡ old) (clean : IsClean new) where
+    to_its_end : (done : Served) → Serves bytes had has old new done.requests → Stands (MayBe b before) old
+        → Stands (MayBe b (told_by_stream bytes had has (Ok done) ++ before)) new
+    to_its_end done run stands = elim (by_book old new (MayBe b before) (book_of old) refl stands) [
       | inl none ↦
           let so = run.answered None none in
-          stands_as g new (MayBe b before) (MayBe b (told_by_stream bytes had has (Ok done) ++ before)) (λ x is. (
+          stands_as new (MayBe b before) (MayBe b (told_by_stream bytes had has (Ok done) ++ before)) (λ x is. (
             x,
             is,
             record {
@@ -94,7 +95,7 @@ module _ {S : Type 0} (g : Ghosts S) (old new : KeeperValue S) (b : ActState) (b
               written = so.3;
               ends = (run.ending, run.read, run.counted, refl, refl);
             },
-          )) (unmoved g old new (MayBe b before) (unopened none) stands)
+          )) (unmoved old new (MayBe b before) (unopened none) stands)
       | inr it ↦
           let so = run.answered (Some it.0) (clean, it.2, it.3) in
           let stood : Has g new (Some (acts it.0 so.5.0)) = subst (Has g new) so.5.1 so.4 in
@@ -118,12 +119,12 @@ module _ {S : Type 0} (g : Ghosts S) (old new : KeeperValue S) (b : ActState) (b
     ]
 
     until_a_fault : {R W : Type 0} (reader : Watched R) (writer : Watched W) (left : Option (List ℕ)) (fault : Fault)
-        → Fails g bytes left had has reader writer old new fault
-        → Stands g (MayBe b before) old → Stands g (MayBe b (told_by_stream bytes had has (Err fault) ++ before)) new
-    until_a_fault reader writer left fault run stands = elim (by_book g old new (MayBe b before) old.book refl stands) [
+        → Fails bytes left had has reader writer old new fault
+        → Stands (MayBe b before) old → Stands (MayBe b (told_by_stream bytes had has (Err fault) ++ before)) new
+    until_a_fault reader writer left fault run stands = elim (by_book old new (MayBe b before) (book_of old) refl stands) [
       | inl none ↦
           let so = run.answered None none in
-          stands_as g new (MayBe b before) (MayBe b (told_by_stream bytes had has (Err fault) ++ before)) (λ x is. (
+          stands_as new (MayBe b before) (MayBe b (told_by_stream bytes had has (Err fault) ++ before)) (λ x is. (
             x,
             is,
             record {
@@ -137,16 +138,16 @@ module _ {S : Type 0} (g : Ghosts S) (old new : KeeperValue S) (b : ActState) (b
                 run.rest,
                 run.read,
                 run.few,
-                bookless_breaks g new law reader writer (1000 - length run.requests) run.rest left so.1 x fault
-                    (subst (λ y. Breaks g reader writer (1000 - length run.requests) run.rest left so.1 new y fault) (none_after 1000 run.requests so.0 so.2 so.3) so.5),
+                bookless_breaks new law reader writer (1000 - length run.requests) run.rest left so.1 x fault
+                    (subst (λ y. Breaks reader writer (1000 - length run.requests) run.rest left so.1 new y fault) (none_after 1000 run.requests so.0 so.2 so.3) so.5),
               );
             },
-          )) (unmoved g old new (MayBe b before) (unopened none) stands)
+          )) (unmoved old new (MayBe b before) (unopened none) stands)
       | inr it ↦
           let so = run.answered (Some it.0) (clean, it.2, it.3) in
           let stream : Stream = record { bytes = bytes; had = had; has = has; ended = Err fault } in
           let c : ActState = acts it.0 so.6.0 in
-          breaks_stand g new c (MayBe b (streamed stream ∷ before)) reader writer (1000 - length run.requests) run.rest left so.1 fault (λ x broke. (
+          breaks_stand new c (MayBe b (streamed stream ∷ before)) reader writer (1000 - length run.requests) run.rest left so.1 fault (λ x broke. (
             it.0,
             it.1,
             record {
@@ -158,12 +159,12 @@ module _ {S : Type 0} (g : Ghosts S) (old new : KeeperValue S) (b : ActState) (b
               written = so.4;
               ends = (run.rest, run.read, run.few, broke);
             },
-          )) (subst (λ y. Breaks g reader writer (1000 - length run.requests) run.rest left so.1 new y fault) so.6.1 so.5)
+          )) (subst (λ y. Breaks reader writer (1000 - length run.requests) run.rest left so.1 new y fault) so.6.1 so.5)
     ]
 
     pub stream_stands : {R W : Type 0} (reader : Watched R) (writer : Watched W) (left : Option (List ℕ)) (r : Result Served Fault)
-        → IfOk r (λ done. Serves g bytes had has old new done.requests)
-        → IfErr r (Fails g bytes left had has reader writer old new) → Stands g (MayBe b before) old
-        → Stands g (MayBe b (told_by_stream bytes had has r ++ before)) new
+        → IfOk r (λ done. Serves bytes had has old new done.requests)
+        → IfErr r (Fails bytes left had has reader writer old new) → Stands (MayBe b before) old
+        → Stands (MayBe b (told_by_stream bytes had has r ++ before)) new
     stream_stands reader writer left (Ok done) serves fails stands = to_its_end done serves stands
     stream_stands reader writer left (Err fault) serves fails stands = until_a_fault reader writer left fault fails stands

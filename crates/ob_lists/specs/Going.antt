@@ -16,36 +16,44 @@ use Rattle.ob_book.specs.Forecasts.{forecast_text_of}
 use Rattle.ob_sql_rows.specs.declared.table.Table.{Table}
 use Rattle.ob_import.specs.Imports.{Says}
 use Rattle.ob_import.specs.Reports.{AreRows}
+<<<<<<< HEAD
 use Rattle.ob_store.specs.Calls.{ForgetsNoFault, HasCommandCause, HasWorkCause, OpensAfter, StoreFailed}
 use Rattle.ob_store.specs.Crashing.{Loads}
 use Rattle.ob_store.specs.Keepers.{Ghosts, IsClean, KeeperValue, StoresNumbers, Ties}
+=======
+use Rattle.ob_store.specs.Calls.{ForgetsNoFault, HasCommandCause, HasWorkCause, OpensAfter}
+use Rattle.ob_store.specs.Keepers.{Ghosts, IsClean, StoresNumbers, Ties, book_of}
+use Rattle.ob_store.specs.declared.keeper.Keeper.{Keeper}
+>>>>>>> b4b8cd67 (Above the storage layer no contract names the store, its tree or its schema (crates above ob_store are not checked yet))
 use Rattle.ob_http_requests.specs.Message.{Message}
 use Rattle.ob_lists.specs.Importing.{Ended, body_of, counted}
 use Rattle.ob_lists.specs.Streaming.{Accepts, Acknowledges, AnswersStream, Sends, Stream}
 use Rattle.ob_lists.specs.Standing.{InUpgrade, KeptOld, MayBe, Stands, Told, acknowledged, imported, streamed}
 
-module _ {S R : Type 0} (g : Ghosts S) (h : Ghosts R) where
+module _ {S T R U : Type 0} {g : Ghosts S} {h : Ghosts R} where
   -- the one keeper has become the other, and this was told in between, the newest first: whatever was told before, what the store
   -- had of a book it has, with what was told since
-  pub record Goes (told : List Told) (old : KeeperValue S) (new : KeeperValue R) : Type 0 where
-    pub clean : IsClean h new → IsClean g old
-    pub stands : IsClean h new → (b : ActState) (before : List Told)
-        → Stands g (MayBe b before) old → Stands h (MayBe b (told ++ before)) new
+  pub record Goes (told : List Told) (old : Keeper S T g) (new : Keeper R U h) : Type 0 where
+    pub clean : IsClean new → IsClean old
+    pub stands : IsClean new → (b : ActState) (before : List Told)
+        → Stands (MayBe b before) old → Stands (MayBe b (told ++ before)) new
 
   -- a process ended at any moment, and a keeper was made over what a crash left of its store
-  pub record Restarts (old : KeeperValue S) (new : KeeperValue R) : Type 0 where
-    pub opens : OpensAfter g h old new
-    pub book : new.book ≡ None
+  pub record Restarts (old : Keeper S T g) (new : Keeper R U h) : Type 0 where
+    pub opens : OpensAfter old new
+    pub book : book_of new ≡ None
 
+module _ {S R : Type 0} (T U : Type 0) (g : Ghosts S) (h : Ghosts R) where
+  -- a keeper after the end of a process goes on from the same state
   abbrev pub RestartLaw : Type 0
-  RestartLaw = (old : KeeperValue S) (new : KeeperValue R) → Restarts old new → Goes [] old new
+  RestartLaw = (old : Keeper S T g) (new : Keeper R U h) → Restarts old new → Goes [] old new
 
-module _ {S M R : Type 0} (g : Ghosts S) (m : Ghosts M) (h : Ghosts R) where
+module _ {S M R : Type 0} (T U V : Type 0) (g : Ghosts S) (m : Ghosts M) (h : Ghosts R) where
   -- one list after another is a list
   abbrev pub JoinLaw : Type 0
   JoinLaw =
-      (first next : List Told) (old : KeeperValue S) (mid : KeeperValue M) (new : KeeperValue R)
-      → Goes g m first old mid → Goes m h next mid new → Goes g h (next ++ first) old new
+      (first next : List Told) (old : Keeper S T g) (mid : Keeper M U m) (new : Keeper R V h)
+      → Goes first old mid → Goes next mid new → Goes (next ++ first) old new
 
 -- one of these books accepts the command, and the text says what it would do to it
 abbrev pub PlansOne : (ActState → Type 0) → Command → List ℕ → Type 0
@@ -56,35 +64,54 @@ abbrev pub RefusesOne : (ActState → Type 0) → Command → Refusal → Type 0
 RefusesOne Is command why = (x : ActState) × Is x × (refusal x.book command ≡ Some why)
 
 -- The answer of a call that needs a book: the keeper had none, which is told; or it is the answer of one of these books.
-abbrev pub OfOne : {S X : Type 0} → (ActState → Type 0) → KeeperValue S → Result X Stop → (ActState → Type 0) → Type 0
-OfOne Is old result Answers = ((old.book ≡ None) × (result ≡ Err (Fault Reopen))) ⊎ ((x : ActState) × Is x × Answers x)
+abbrev pub OfOne : {S T X : Type 0} {g : Ghosts S} → (ActState → Type 0) → Keeper S T g → Result X Stop → (ActState → Type 0) → Type 0
+OfOne Is old result Answers = ((book_of old ≡ None) × (result ≡ Err (Fault Reopen))) ⊎ ((x : ActState) × Is x × Answers x)
 
+<<<<<<< HEAD
 module _ {S : Type 0} (g : Ghosts S) where
   -- a load finds one of these books, or tells that it is of version 1, which it then is; or memory was refused, or the store failed,
   -- for a cause
   abbrev pub LoadsOne : (ActState → Type 0) → KeeperValue S → KeeperValue S → Result ⊤ Stop → Type 0
   LoadsOne Is old new (Ok done) = (b : ActState) × Is b × Ties g new b × (new.book ≡ Some b.book)
   LoadsOne Is old new (Err (Refused (OldVersion version))) = (version ≡ 1) × (KeptOld g Is old ⊎ InUpgrade g Is old)
+=======
+module _ {S T : Type 0} {g : Ghosts S} where
+  -- a load finds one of these books, or tells that it is of version 1; or memory was refused, or the store failed
+  abbrev pub LoadsOne : (ActState → Type 0) → Keeper S T g → Keeper S T g → Result ⊤ Stop → Type 0
+  LoadsOne Is old new (Ok done) = (b : ActState) × Is b × Ties new b × (book_of new ≡ Some b.book)
+  LoadsOne Is old new (Err (Refused (OldVersion version))) = (version ≡ 1) × (KeptOld Is old ⊎ InUpgrade Is old)
+>>>>>>> b4b8cd67 (Above the storage layer no contract names the store, its tree or its schema (crates above ob_store are not checked yet))
   LoadsOne Is old new (Err (Refused refusal)) = ⊥
   LoadsOne Is old new (Err (Fault OutOfMemory)) = ⊤
   LoadsOne Is old new (Err (Fault Store)) = StoreFailed g old new
   LoadsOne Is old new (Err (Fault fault)) = ⊥
 
   -- an audit finds no table that differs from those of one of these books; or it stops as a load may
-  abbrev pub AuditsOne : (ActState → Type 0) → KeeperValue S → KeeperValue S → Result (Option Table) Stop → Type 0
+  abbrev pub AuditsOne : (ActState → Type 0) → Keeper S T g → Keeper S T g → Result (Option Table) Stop → Type 0
   AuditsOne Is old new (Ok found) = found ≡ None
   AuditsOne Is old new (Err stop) = LoadsOne Is old new (Err stop)
 
+<<<<<<< HEAD
   -- what the load finds that is the last of some calls: the store of the keeper before it had one of these books
   pub record Finds (Is : ActState → Type 0) (new : KeeperValue S) (result : Result ⊤ Stop) : Type 0 where
     pub before : KeeperValue S
     pub stands : Stands g Is before
     pub loads : Loads g before new result
     pub one : LoadsOne Is before new result
+=======
+  -- what the load finds that is the last of some calls
+  abbrev pub Finds : (ActState → Type 0) → Keeper S T g → Result ⊤ Stop → Type 0
+  Finds Is new (Ok done) = (b : ActState) × Is b × Ties new b × (book_of new ≡ Some b.book)
+  Finds Is new (Err (Refused (OldVersion version))) = version ≡ 1
+  Finds Is new (Err (Refused refusal)) = ⊥
+  Finds Is new (Err (Fault OutOfMemory)) = ⊤
+  Finds Is new (Err (Fault Store)) = ⊤
+  Finds Is new (Err (Fault fault)) = ⊥
+>>>>>>> b4b8cd67 (Above the storage layer no contract names the store, its tree or its schema (crates above ob_store are not checked yet))
 
   -- what a load finds where a book of a period was to be made in a database that held nothing: that book where it was made, that
   -- or none where the store failed, and else none
-  abbrev pub Begun : List ℕ → ℕ → List ℕ → Result ⊤ Stop → KeeperValue S → Result ⊤ Stop → Type 0
+  abbrev pub Begun : List ℕ → ℕ → List ℕ → Result ⊤ Stop → Keeper S T g → Result ⊤ Stop → Type 0
   Begun first days zone (Ok done) new result = (p : Calendar) × IsPeriodText first days zone p × Finds (λ x. x ≡ start p) new result
   Begun first days zone (Err (Refused refusal)) new result = IsErr result
   Begun first days zone (Err (Fault Store)) new result =
@@ -92,22 +119,22 @@ module _ {S : Type 0} (g : Ghosts S) where
   Begun first days zone (Err (Fault fault)) new result = IsErr result
 
   -- where the store is told to have failed on a command, that has its cause, over one of these books
-  abbrev pub ActsForCause : {X : Type 0} → (ActState → Type 0) → KeeperValue S → KeeperValue S → Referenced → Result X Stop → Type 0
-  ActsForCause Is old new a result = (x : ActState) × Is x × HasCommandCause g old new x a result
+  abbrev pub ActsForCause : {X : Type 0} → (ActState → Type 0) → Keeper S T g → Keeper S T g → Referenced → Result X Stop → Type 0
+  ActsForCause Is old new a result = (x : ActState) × Is x × HasCommandCause old new x a result
 
   -- What is known of the store's faults after a call, which reports that the store failed or doesn't: none is forgotten; hidden row
   -- numbers 1, 2, 3 and so on stay so, whichever book there is; and then such a report over a keeper's book has its cause.
-  pub record TellsOverList (old new : KeeperValue S) (failed : Type 0) : Type 0 where
-    pub forgets : ForgetsNoFault g old new
-    pub numbered : (b : ActState) (told : List Told) → Stands g (MayBe b told) old → StoresNumbers g old → StoresNumbers g new
-    pub cause : IsClean g new → (b : ActState) (told : List Told) → Stands g (MayBe b told) old → IsSome old.book → StoresNumbers g old → failed
-        → (x : ActState) × MayBe b told x × HasWorkCause g old new x
+  pub record TellsOverList (old new : Keeper S T g) (failed : Type 0) : Type 0 where
+    pub forgets : ForgetsNoFault old new
+    pub numbered : (b : ActState) (told : List Told) → Stands (MayBe b told) old → StoresNumbers old → StoresNumbers new
+    pub cause : IsClean new → (b : ActState) (told : List Told) → Stands (MayBe b told) old → IsSome (book_of old) → StoresNumbers old → failed
+        → (x : ActState) × MayBe b told x × HasWorkCause old new x
 
   -- a new book of the period that the texts name stands, with what was told since; and whatever a crash leaves has hidden row numbers
   -- 1, 2, 3 and so on
-  abbrev pub BegunNumbered : List ℕ → ℕ → List ℕ → List Told → KeeperValue S → Type 0
+  abbrev pub BegunNumbered : List ℕ → ℕ → List ℕ → List Told → Keeper S T g → Type 0
   BegunNumbered first days zone told new =
-      (p : Calendar) × IsPeriodText first days zone p × Stands g (MayBe (start p) told) new × StoresNumbers g new
+      (p : Calendar) × IsPeriodText first days zone p × Stands (MayBe (start p) told) new × StoresNumbers new
 
 -- an accepted command of the book has the reference and the body text
 abbrev pub Holds : ActState → Referenced → Type 0

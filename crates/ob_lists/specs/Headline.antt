@@ -6,26 +6,36 @@ use Rattle.ob_post.specs.Keys.{IsKey}
 use Rattle.ob_post.specs.declared.Dim.{Dim}
 use Rattle.ob_index.specs.declared.figures.Which.{Which}
 use Rattle.ob_book.specs.Acts.{ActState, Referenced}
-use Rattle.ob_store.specs.Keepers.{Ghosts, KeeperValue, Ties}
+use Rattle.ob_store.specs.Keepers.{Ghosts, Ties}
+use Rattle.ob_store.specs.declared.keeper.Keeper.{Keeper}
 use Rattle.ob_headline.specs.Headline.{IsHeadline}
 use Rattle.ob_headline.specs.declared.figures.Shown.{Shown}
 use Rattle.ob_lists.specs.Standing.{MayBe, Told, acknowledged}
 use Rattle.ob_lists.specs.Going.{Holds, LoadsOne}
 
-module _ {S : Type 0} (g : Ghosts S) (b : ActState) (told : List Told) (k : KeeperValue S) (dim : Dim) (key : ℕ) (which : Which) where
+module _ {S T : Type 0} {g : Ghosts S} (b : ActState) (told : List Told) (k : Keeper S T g) (dim : Dim) (key : ℕ) (which : Which) where
   -- what is shown is the headline of one book, which the keeper has and its store keeps: a book to which the calls may have led from
   -- that at their beginning, such as a new one; it is of the same period, and has each command that was acknowledged
   pub record IsShownAfter (shown : Shown) : Type 0 where
     pub book : ActState
     pub may_be : MayBe b told book
-    pub ties : Ties g k book
+    pub ties : Ties k book
     pub period : book.book.period ≡ b.book.period
     pub has : (a : Referenced) → Contains told (acknowledged a) → Holds book a
     pub headline : IsHeadline book dim key which shown
 
+<<<<<<< HEAD
   -- The same where the book is loaded first, from an earlier state of the keeper. Nothing is shown where the period has no such key; or
   -- a load tells why, or memory was refused.
   abbrev pub LoadsAndShows : KeeperValue S → Result (Option Shown) Stop → Type 0
   LoadsAndShows old (Ok (Some shown)) = IsShownAfter shown
   LoadsAndShows old (Ok None) = ¬ (IsKey (day_count b.book.period) dim key)
   LoadsAndShows old (Err stop) = LoadsOne g (MayBe b told) old k (Err stop)
+=======
+  -- The same where the book is loaded first. Nothing is shown where the period has no such key; or a load tells why, or memory was
+  -- refused.
+  abbrev pub LoadsAndShows : Result (Option Shown) Stop → Type 0
+  LoadsAndShows (Ok (Some shown)) = IsShownAfter shown
+  LoadsAndShows (Ok None) = ¬ (IsKey (day_count b.book.period) dim key)
+  LoadsAndShows (Err stop) = Finds (MayBe b told) k (Err stop)
+>>>>>>> b4b8cd67 (Above the storage layer no contract names the store, its tree or its schema (crates above ob_store are not checked yet))

@@ -6,8 +6,9 @@ use Rattle.ob_base.specs.declared.stop.Fault.{Fault as AFault}
 use Rattle.ob_base.specs.declared.stop.Fault.TheVariants.{Reopen, Store}
 use Rattle.ob_csv.specs.Rows.{Fields}
 use Rattle.ob_book.specs.Acts.{ActState, Referenced, act, acts}
-use Rattle.ob_store.specs.Keepers.{Ghosts, KeeperValue, StoresEither, StoresEitherVersion, StoresOld, Ties}
+use Rattle.ob_store.specs.Keepers.{Ghosts, StoresEither, StoresEitherVersion, StoresOld, Ties, book_of}
 use Rattle.ob_store.specs.declared.reply.Reply.{Reply as GivenReply}
+use Rattle.ob_store.specs.declared.keeper.Keeper.{Keeper}
 use Rattle.ob_desk.specs.declared.stream.Served.{Served}
 use Rattle.ob_lists.specs.Importing.{Ended, MakesOf}
 use Rattle.ob_lists.specs.Streaming.{AnswersStream, IsAnswered, Stream}
@@ -52,12 +53,12 @@ MayBe b (imported known ended ∷ before) x = (y : ActState) × MayBe b before y
 MayBe b (streamed stream ∷ before) x = (y : ActState) × MayBe b before y × AnswersStream y stream x
 MayBe b (served ∷ before) x = (y : ActState) × MayBe b before y × (commands : List Referenced) × (x ≡ acts y commands)
 
-module _ {S : Type 0} (g : Ghosts S) (Is : ActState → Type 0) (k : KeeperValue S) where
+module _ {S T : Type 0} {g : Ghosts S} (Is : ActState → Type 0) (k : Keeper S T g) where
   -- its store keeps a book of this kind, and its own book, where it has one, is that
   pub record Kept : Type 0 where
     pub book : ActState
     pub is : Is book
-    pub ties : Ties g k book
+    pub ties : Ties k book
 
   -- its store keeps the first of two, or a crash leaves the other; the keeper has no book
   pub record InDoubt : Type 0 where
@@ -65,22 +66,22 @@ module _ {S : Type 0} (g : Ghosts S) (Is : ActState → Type 0) (k : KeeperValue
     pub other : ActState
     pub is : Is book
     pub other_is : Is other
-    pub keeps : StoresEither g k book other
-    pub lost : k.book ≡ None
+    pub keeps : StoresEither k book other
+    pub lost : book_of k ≡ None
 
   -- its store keeps a book in the tables of version 1, and the keeper has none
   pub record KeptOld : Type 0 where
     pub book : ActState
     pub is : Is book
-    pub keeps : StoresOld g k book
-    pub lost : k.book ≡ None
+    pub keeps : StoresOld k book
+    pub lost : book_of k ≡ None
 
   -- its store keeps a book in these, or a crash leaves it in those of version 2; the keeper has none
   pub record InUpgrade : Type 0 where
     pub book : ActState
     pub is : Is book
-    pub keeps : StoresEitherVersion g k book
-    pub lost : k.book ≡ None
+    pub keeps : StoresEitherVersion k book
+    pub lost : book_of k ≡ None
 
   -- one of these
   abbrev pub Stands : Type 0

@@ -3,15 +3,9 @@ ghost use Rattle.std.specs.Prelude.{◌≡◌, ◌↔◌, [], ◌∷◌, List, S
 ghost use Rattle.ob_stream.specs.Watching.{watched_bytes};
 ghost use Rattle.ob_csv.specs.Rows.{rows_of};
 ghost use Rattle.ob_book.specs.Acts.{ActState};
-ghost use Rattle.ob_store.specs.Acting.{Acted, under};
-ghost use Rattle.ob_store.specs.Calls.{HasCreationCause, IfStoredOld, LeavesCurrentTables, MigratesOldTables, MigratesStoredBook, MigrationAnswers, OnOldTables, OnTables, ReadAnswers, StoreFailed};
-ghost use Rattle.ob_store.specs.Crashing.{Loads};
-ghost use Rattle.ob_store.specs.Creating.{Created};
-ghost use Rattle.ob_store.specs.Keepers.{IsClean, StoresNumbers};
-ghost use Rattle.ob_store.specs.Loading.{Audited};
-ghost use Rattle.ob_store.specs.MovingOut.{MovesOut};
-ghost use Rattle.ob_store.specs.Replying.{Replied};
-ghost use Rattle.ob_store.specs.Versions.{Outdated};
+ghost use Rattle.ob_store.specs.Acting.{under};
+ghost use Rattle.ob_store.specs.Calls.{Acted, Audited, Created, HasCreationCause, IfStoredOld, LeavesCurrentTables, Loads, MigratesOldTables, MigratesStoredBook, MigrationAnswers, MovesOut, OnOldTables, OnTables, Outdated, ReadAnswers, Replied, StoreFailed};
+ghost use Rattle.ob_store.specs.Keepers.{IsClean, StoresNumbers, book_of};
 ghost use Rattle.ob_import.specs.Reports.{HasCause, ImportOf, IsStoreFault, no_book};
 ghost use Rattle.ob_desk.specs.Listening.{ServesStreams, has_failed, streams_left};
 ghost use Rattle.ob_desk.specs.Serving.{Fails, Serves};
@@ -41,17 +35,15 @@ pub fn act<S: Alter, T: Timeline>(
     reference: Ref,
     command: Command,
 ) -> Result<Reply, Stop>
-    ensures goes { Goes S.Store S.Store (told_by (under reference command) result) keeper.old
-        keeper.new }
-    ensures answers { IsClean S.Store keeper.new → (b : ActState) (told : List Told)
-        → Stands S.Store (MayBe b told) keeper.old → OfOne (MayBe b told) keeper.old result
-        (λ x. Acted S.Store keeper.old keeper.new x (under reference command) result) }
-    ensures cause { IsClean S.Store keeper.new → (b : ActState) (told : List Told)
-        → Stands S.Store (MayBe b told) keeper.old → StoresNumbers S.Store keeper.old
-        → ActsForCause S.Store (MayBe b told) keeper.old keeper.new (under reference command)
-        result }
-    ensures numbered { (b : ActState) (told : List Told) → Stands S.Store (MayBe b told) keeper.old
-        → StoresNumbers S.Store keeper.old → StoresNumbers S.Store keeper.new }
+    ensures goes { Goes (told_by (under reference command) result) keeper.old keeper.new }
+    ensures answers { IsClean keeper.new → (b : ActState) (told : List Told)
+        → Stands (MayBe b told) keeper.old → OfOne (MayBe b told) keeper.old result
+        (λ x. Acted keeper.old keeper.new x (under reference command) result) }
+    ensures cause { IsClean keeper.new → (b : ActState) (told : List Told)
+        → Stands (MayBe b told) keeper.old → StoresNumbers keeper.old
+        → ActsForCause (MayBe b told) keeper.old keeper.new (under reference command) result }
+    ensures numbered { (b : ActState) (told : List Told) → Stands (MayBe b told) keeper.old
+        → StoresNumbers keeper.old → StoresNumbers keeper.new }
 {
     keeper.act(reference, command)
 }
@@ -59,12 +51,11 @@ pub fn act<S: Alter, T: Timeline>(
 /// Loads the book, which is one of those that the calls may have left. Hidden row numbers that a
 /// crash may leave stay as they were.
 pub fn load<S: Alter, T: Timeline>(keeper: &mut Keeper<S, T>) -> Result<(), Stop>
-    ensures goes { Goes S.Store S.Store [] keeper.old keeper.new }
-    ensures loads { IsClean S.Store keeper.new → (b : ActState) (told : List Told)
-        → Stands S.Store (MayBe b told) keeper.old
-        → LoadsOne S.Store (MayBe b told) keeper.old keeper.new result }
-    ensures load { Loads S.Store keeper.old keeper.new result }
-    ensures numbered { StoresNumbers S.Store keeper.old → StoresNumbers S.Store keeper.new }
+    ensures goes { Goes [] keeper.old keeper.new }
+    ensures loads { IsClean keeper.new → (b : ActState) (told : List Told)
+        → Stands (MayBe b told) keeper.old → LoadsOne (MayBe b told) keeper.old keeper.new result }
+    ensures load { Loads keeper.old keeper.new result }
+    ensures numbered { StoresNumbers keeper.old → StoresNumbers keeper.new }
 {
     load_law::<S>();
     keeper.load()
@@ -72,17 +63,14 @@ pub fn load<S: Alter, T: Timeline>(keeper: &mut Keeper<S, T>) -> Result<(), Stop
 
 /// Compares the tables. None of them differs from those of the books that the calls may have left.
 pub fn audit<S: Alter, T: Timeline>(keeper: &mut Keeper<S, T>) -> Result<Option<Table>, Stop>
-    ensures goes { Goes S.Store S.Store [] keeper.old keeper.new }
-    ensures audits { IsClean S.Store keeper.new → (b : ActState) (told : List Told)
-        → Stands S.Store (MayBe b told) keeper.old
-        → AuditsOne S.Store (MayBe b told) keeper.old keeper.new result }
+    ensures goes { Goes [] keeper.old keeper.new }
+    ensures audits { IsClean keeper.new → (b : ActState) (told : List Told)
+        → Stands (MayBe b told) keeper.old → AuditsOne (MayBe b told) keeper.old keeper.new result }
     // what the audit promises over any tables
-    ensures found { OnOk result (keeper.new.book ≡ keeper.old.book) }
-    ensures answers { ReadAnswers S.Store keeper.old keeper.new result }
-    ensures audited { OnTables S.Store keeper.old keeper.new
-        (Audited S.Store keeper.old keeper.new result) }
-    ensures outdated { OnOldTables S.Store keeper.old keeper.new
-        (Outdated S.Store keeper.old keeper.new result) }
+    ensures found { OnOk result (book_of keeper.new ≡ book_of keeper.old) }
+    ensures answers { ReadAnswers keeper.old keeper.new result }
+    ensures audited { OnTables keeper.old keeper.new (Audited keeper.old keeper.new result) }
+    ensures outdated { OnOldTables keeper.old keeper.new (Outdated keeper.old keeper.new result) }
 {
     naming_law();
     keeper.audit()
@@ -93,13 +81,13 @@ pub fn reply_of<S: Alter, T: Timeline>(
     keeper: &mut Keeper<S, T>,
     no: u32,
 ) -> Result<Option<Reply>, Stop>
-    ensures goes { Goes S.Store S.Store [] keeper.old keeper.new }
+    ensures goes { Goes [] keeper.old keeper.new }
     // and where the store is reported to have failed, it has
-    ensures replies { IsClean S.Store keeper.new → (b : ActState) (told : List Told)
-        → Stands S.Store (MayBe b told) keeper.old → OfOne (MayBe b told) keeper.old result
-        (λ x. Replied S.Store keeper.old keeper.new x no result
+    ensures replies { IsClean keeper.new → (b : ActState) (told : List Told)
+        → Stands (MayBe b told) keeper.old → OfOne (MayBe b told) keeper.old result
+        (λ x. Replied keeper.old keeper.new x no result
         × IfErr result (λ stop. stop ≡ Stop.Fault Fault.Store
-        → StoreFailed S.Store keeper.old keeper.new)) }
+        → StoreFailed keeper.old keeper.new)) }
 {
     keeper.reply_of(no)
 }
@@ -110,14 +98,14 @@ pub fn plan<S: Alter, T: Timeline>(
     keeper: &mut Keeper<S, T>,
     command: &Command,
 ) -> Result<Vec<u8>, Stop>
-    ensures goes { Goes S.Store S.Store [] keeper.old keeper.new }
-    ensures plans { (b : ActState) (told : List Told) → Stands S.Store (MayBe b told) keeper.old
+    ensures goes { Goes [] keeper.old keeper.new }
+    ensures plans { (b : ActState) (told : List Told) → Stands (MayBe b told) keeper.old
         → IfOk result (λ text. PlansOne (MayBe b told) command.now text.items) }
-    ensures refuses { (b : ActState) (told : List Told) → Stands S.Store (MayBe b told) keeper.old
+    ensures refuses { (b : ActState) (told : List Told) → Stands (MayBe b told) keeper.old
         → (why : ARefusal) → result ≡ Err (Stop.Refused why)
         → RefusesOne (MayBe b told) command.now why }
-    ensures reopen { (keeper.old.book ≡ None) ↔ (result ≡ Err (Stop.Fault Fault.Reopen)) }
-    ensures err { IsSome keeper.old.book → (fault : AFault) → result ≡ Err (Stop.Fault fault)
+    ensures reopen { (book_of keeper.old ≡ None) ↔ (result ≡ Err (Stop.Fault Fault.Reopen)) }
+    ensures err { IsSome (book_of keeper.old) → (fault : AFault) → result ≡ Err (Stop.Fault fault)
         → fault ≡ Fault.OutOfMemory }
 {
     keeper.plan(command)
@@ -129,25 +117,24 @@ pub fn moves_out<S: Alter, T: Timeline, V: MoveSink>(
     keeper: &mut Keeper<S, T>,
     sink: &mut V,
 ) -> Result<u64, Stop>
-    ensures goes { Goes S.Store S.Store [] keeper.old keeper.new }
-    ensures moves { IsClean S.Store keeper.new → (b : ActState) (told : List Told)
-        → Stands S.Store (MayBe b told) keeper.old → OfOne (MayBe b told) keeper.old result
-        (λ x. MovesOut S.Store V.takes keeper.old keeper.new sink.old sink.new x result) }
+    ensures goes { Goes [] keeper.old keeper.new }
+    ensures moves { IsClean keeper.new → (b : ActState) (told : List Told)
+        → Stands (MayBe b told) keeper.old → OfOne (MayBe b told) keeper.old result
+        (λ x. MovesOut V.takes keeper.old keeper.new sink.old sink.new x result) }
 {
     keeper.moves_out(sink)
 }
 
 /// Migrates tables of version 1 to version 2.
 pub fn migrate<S: Alter, T: Timeline>(keeper: &mut Keeper<S, T>) -> Result<bool, Stop>
-    ensures goes { Goes S.Store S.Store [] keeper.old keeper.new }
+    ensures goes { Goes [] keeper.old keeper.new }
     // what the migration promises over any tables
-    ensures goes_on { MigrationAnswers S.Store keeper.old keeper.new result }
-    ensures migrated { OnOldTables S.Store keeper.old keeper.new
-        (MigratesOldTables S.Store keeper.old keeper.new result) }
-    ensures current { OnTables S.Store keeper.old keeper.new
-        (LeavesCurrentTables S.Store keeper.old keeper.new result) }
-    ensures kept { IfStoredOld S.Store keeper.old keeper.new
-        (λ b. MigratesStoredBook S.Store keeper.new b result) }
+    ensures goes_on { MigrationAnswers keeper.old keeper.new result }
+    ensures migrated { OnOldTables keeper.old keeper.new
+        (MigratesOldTables keeper.old keeper.new result) }
+    ensures current { OnTables keeper.old keeper.new (LeavesCurrentTables keeper.old keeper.new
+        result) }
+    ensures kept { IfStoredOld keeper.old keeper.new (λ b. MigratesStoredBook keeper.new b result) }
 {
     keeper.migrate()
 }
@@ -160,12 +147,12 @@ pub fn create_again<S: Alter, T: Timeline>(
     days: u16,
     zone: &[u8],
 ) -> Result<(), Stop>
-    ensures goes { Goes S.Store S.Store [] keeper.old keeper.new }
-    ensures refused { IsClean S.Store keeper.new → (b : ActState) (told : List Told)
-        → Stands S.Store (MayBe b told) keeper.old → IsErr result }
-    ensures created { Created S.Store keeper.old keeper.new first.now days zone.now result }
-    ensures cause { IsClean S.Store keeper.new
-        → HasCreationCause S.Store keeper.old keeper.new first.now days zone.now result }
+    ensures goes { Goes [] keeper.old keeper.new }
+    ensures refused { IsClean keeper.new → (b : ActState) (told : List Told)
+        → Stands (MayBe b told) keeper.old → IsErr result }
+    ensures created { Created keeper.old keeper.new first.now days zone.now result }
+    ensures cause { IsClean keeper.new → HasCreationCause keeper.old keeper.new first.now days
+        zone.now result }
 {
     keeper.create(first, days, zone)
 }
@@ -178,11 +165,10 @@ pub fn import_text<S: Alter, T: Timeline>(
     text: &[u8],
     keeper: &mut Keeper<S, T>,
 ) -> Result<ImportReport, ImportFault>
-    ensures goes { Goes S.Store S.Store (told_by_import (Some (rows_of text.now)) result) keeper.old
-        keeper.new }
-    ensures reopen { (keeper.old.book ≡ None) ↔ (result ≡ no_book) }
-    ensures cause { IsSome keeper.old.book → IfErr result (λ e. HasCause e.fault ⊥) }
-    ensures tells { TellsOverList S.Store keeper.old keeper.new (IsStoreFault result) }
+    ensures goes { Goes (told_by_import (Some (rows_of text.now)) result) keeper.old keeper.new }
+    ensures reopen { (book_of keeper.old ≡ None) ↔ (result ≡ no_book) }
+    ensures cause { IsSome (book_of keeper.old) → IfErr result (λ e. HasCause e.fault ⊥) }
+    ensures tells { TellsOverList keeper.old keeper.new (IsStoreFault result) }
 {
     ob_import::import_text(alloc, text, keeper)
 }
@@ -193,11 +179,10 @@ pub fn import<R: Read, S: Alter, T: Timeline>(
     reader: &mut Watched<R>,
     keeper: &mut Keeper<S, T>,
 ) -> Result<ImportReport, ImportFault>
-    ensures goes { Goes S.Store S.Store
-        (told_by_import (option_map rows_of (watched_bytes R.remaining reader.old)) result)
-        keeper.old keeper.new }
-    ensures import { ImportOf S.Store R.remaining keeper.old keeper.new reader.old reader.new result }
-    ensures tells { TellsOverList S.Store keeper.old keeper.new (IsStoreFault result) }
+    ensures goes { Goes (told_by_import (option_map rows_of (watched_bytes R.remaining reader.old))
+        result) keeper.old keeper.new }
+    ensures import { ImportOf R.remaining keeper.old keeper.new reader.old reader.new result }
+    ensures tells { TellsOverList keeper.old keeper.new (IsStoreFault result) }
 {
     ob_import::import(alloc, reader, keeper)
 }
@@ -209,16 +194,16 @@ pub fn serve_stream<R: Read, W: Write, S: Alter, T: Timeline>(
     writer: &mut Watched<W>,
     keeper: &mut Keeper<S, T>,
 ) -> Result<Served, Fault>
-    ensures goes { Goes S.Store S.Store
-        (told_by_stream (watched_bytes R.remaining reader.old) (watched_bytes W.contents writer.old)
-        (watched_bytes W.contents writer.new) result) keeper.old keeper.new }
-    ensures serves { IfOk result (λ served. Serves S.Store (watched_bytes R.remaining reader.old)
+    ensures goes { Goes (told_by_stream (watched_bytes R.remaining reader.old)
+        (watched_bytes W.contents writer.old) (watched_bytes W.contents writer.new) result)
+        keeper.old keeper.new }
+    ensures serves { IfOk result (λ served. Serves (watched_bytes R.remaining reader.old)
         (watched_bytes W.contents writer.old) (watched_bytes W.contents writer.new) keeper.old
         keeper.new served.requests) }
-    ensures fails { IfErr result (Fails S.Store (watched_bytes R.remaining reader.old)
+    ensures fails { IfErr result (Fails (watched_bytes R.remaining reader.old)
         (watched_bytes R.remaining reader.new) (watched_bytes W.contents writer.old)
         (watched_bytes W.contents writer.new) reader.new writer.new keeper.old keeper.new) }
-    ensures tells { TellsOverList S.Store keeper.old keeper.new (result ≡ Err Fault.Store) }
+    ensures tells { TellsOverList keeper.old keeper.new (result ≡ Err Fault.Store) }
 {
     answers_law();
     ob_desk::serve_stream(alloc, reader, writer, keeper)
@@ -232,12 +217,12 @@ pub fn run_serve<S: Alter, T: Timeline, L: FaultLog>(
     keeper: &mut Keeper<S, T>,
     log: &mut L,
 ) -> Result<(), Unserved>
-    ensures goes { Goes S.Store S.Store (served ∷ []) keeper.old keeper.new }
+    ensures goes { Goes (served ∷ []) keeper.old keeper.new }
     ensures failed { has_failed listener.old ≡ false → (has_failed listener.new ≡ true)
         ↔ (result ≡ Err Unserved.Listener) }
-    ensures served { ServesStreams S.Store L.tells keeper.old keeper.new log.old log.new
+    ensures served { ServesStreams L.tells keeper.old keeper.new log.old log.new
         (streams_left listener.old) (streams_left listener.new) result }
-    ensures tells { TellsOverList S.Store keeper.old keeper.new (result ≡ Err Unserved.Store) }
+    ensures tells { TellsOverList keeper.old keeper.new (result ≡ Err Unserved.Store) }
 {
     ob_desk::run_serve(alloc, listener, keeper, log)
 }

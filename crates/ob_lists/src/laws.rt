@@ -5,18 +5,19 @@ use ob_http_requests::one_request;
 use ob_http_routes::answers_law;
 use ob_sql_check::upgrade_law;
 use ob_store::Alter;
+use ob_sweep::Timeline;
 
 /// A process may end at any moment: a `Keeper` over what the crash left of its store goes on from
 /// the same state.
-pub fn restart_law<S: Alter, R: Alter>()
-    ensures { RestartLaw S.Store R.Store }
+pub fn restart_law<S: Alter, T: Timeline, R: Alter, U: Timeline>()
+    ensures { RestartLaw T U S.Store R.Store }
 {
     upgrade_law();
 }
 
 /// One list of calls after another is a list of calls.
-pub fn join_law<S: Alter, M: Alter, R: Alter>()
-    ensures { JoinLaw S.Store M.Store R.Store }
+pub fn join_law<S: Alter, T: Timeline, M: Alter, U: Timeline, R: Alter, V: Timeline>()
+    ensures { JoinLaw T U V S.Store M.Store R.Store }
 {}
 
 /// Whatever book a list of answered calls may have left, it contains each command that was

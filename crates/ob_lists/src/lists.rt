@@ -25,7 +25,7 @@ pub trait Restart<S: Alter, R: Alter, T: Timeline> {
     /// The `Keeper` of the process after a crash; the crash comes at a moment at which no call is
     /// running.
     fn restart(&mut self, keeper: Keeper<S, T>) -> Keeper<R, T>
-        ensures { Restarts S.Store R.Store keeper result };
+        ensures { Restarts keeper result };
 }
 
 /// A command, a load, and another load: whatever the first two answered, the last finds a book that
@@ -36,10 +36,9 @@ pub fn act_load_load<S: Alter, T: Timeline>(
     reference: Ref,
     command: Command,
 ) -> (Result<Reply, Stop>, Result<(), Stop>)
-    ensures { IsClean S.Store keeper.new → (b : ActState) (told : List Told)
-        → Stands S.Store (MayBe b told) keeper.old
-        → Finds S.Store (MayBe b (told_by (under reference command) result.0 ++ told)) keeper.new
-        result.1 }
+    ensures { IsClean keeper.new → (b : ActState) (told : List Told)
+        → Stands (MayBe b told) keeper.old → Finds (MayBe b
+        (told_by (under reference command) result.0 ++ told)) keeper.new result.1 }
 {
     let sent = act(keeper, reference, command);
     let _ = load(keeper);
@@ -56,11 +55,17 @@ pub fn act_create<S: Alter, T: Timeline>(
     days: u16,
     zone: &[u8],
 ) -> (Result<Reply, Stop>, Result<(), Stop>)
+<<<<<<< HEAD
     ensures stands { IsClean S.Store keeper.new → (b : ActState) (told : List Told)
         → Stands S.Store (MayBe b told) keeper.old → IsErr result.1
         × Stands S.Store (MayBe b (told_by (under reference command) result.0 ++ told)) keeper.new }
     ensures created { (before : KeeperValue S)
         × Created S.Store before keeper.new first.now days zone.now result.1 }
+=======
+    ensures { IsClean keeper.new → (b : ActState) (told : List Told)
+        → Stands (MayBe b told) keeper.old → IsErr result.1
+        × Stands (MayBe b (told_by (under reference command) result.0 ++ told)) keeper.new }
+>>>>>>> b4b8cd67 (Above the storage layer no contract names the store, its tree or its schema (crates above ob_store are not checked yet))
 {
     let sent = act(keeper, reference, command);
     (sent, create_again(keeper, first, days, zone))
@@ -75,8 +80,8 @@ pub fn create_restart_load<S: Alter, R: Alter, T: Timeline, C: Restart<S, R, T>>
     days: u16,
     zone: &[u8],
 ) -> (Result<(), Stop>, Keeper<R, T>, Result<(), Stop>)
-    ensures { IsClean R.Store result.1 → HoldsNothing S.Store keeper
-        → Begun R.Store first.now days zone.now result.0 result.1 result.2 }
+    ensures { IsClean result.1 → HoldsNothing keeper → Begun first.now days zone.now result.0
+        result.1 result.2 }
 {
     load_law::<R>();
     let made = keeper.create(first, days, zone);
@@ -98,13 +103,17 @@ pub fn create_act_restart_load<S: Alter, R: Alter, T: Timeline, C: Restart<S, R,
     reference: Ref,
     command: Command,
 ) -> (Result<(), Stop>, Result<Reply, Stop>, Keeper<R, T>)
+<<<<<<< HEAD
     ensures begun { IsClean R.Store result.2 → OnOk result.0
         (BegunNumbered R.Store first.now days zone.now
+=======
+    ensures { IsClean result.2 → OnOk result.0 (BegunNumbered first.now days zone.now
+>>>>>>> b4b8cd67 (Above the storage layer no contract names the store, its tree or its schema (crates above ob_store are not checked yet))
         (told_by (under reference command) result.1) result.2) }
     ensures created { (made : KeeperValue S)
         × Created S.Store keeper made first.now days zone.now result.0 }
 {
-    restart_law::<S, R>();
+    restart_law::<S, T, R, T>();
     crash_law::<S, R>();
     let made = keeper.create(first, days, zone);
     let sent = act(&mut keeper, reference, command);
@@ -119,11 +128,10 @@ pub fn migrate_restart_migrate_load<S: Alter, R: Alter, T: Timeline, C: Restart<
     mut keeper: Keeper<S, T>,
     crash: &mut C,
 ) -> (Keeper<R, T>, Result<(), Stop>)
-    ensures { IsClean R.Store result.0 → (b : ActState) (told : List Told)
-        → Stands S.Store (MayBe b told) keeper
-        → Finds R.Store (MayBe b told) result.0 result.1 }
+    ensures { IsClean result.0 → (b : ActState) (told : List Told) → Stands (MayBe b told) keeper
+        → Finds (MayBe b told) result.0 result.1 }
 {
-    restart_law::<S, R>();
+    restart_law::<S, T, R, T>();
     let _ = migrate(&mut keeper);
     let mut next = crash.restart(keeper);
     let _ = migrate(&mut next);
@@ -135,9 +143,8 @@ pub fn migrate_restart_migrate_load<S: Alter, R: Alter, T: Timeline, C: Restart<
 pub fn migrate_load_audit<S: Alter, T: Timeline>(
     keeper: &mut Keeper<S, T>,
 ) -> Result<Option<Table>, Stop>
-    ensures { IsClean S.Store keeper.new → (b : ActState) (told : List Told)
-        → Stands S.Store (MayBe b told) keeper.old
-        → Stands S.Store (MayBe b told) keeper.new }
+    ensures { IsClean keeper.new → (b : ActState) (told : List Told)
+        → Stands (MayBe b told) keeper.old → Stands (MayBe b told) keeper.new }
 {
     let _ = migrate(keeper);
     let _ = load(keeper);
@@ -159,12 +166,11 @@ pub fn act_import_restart_load<S: Alter, R: Alter, T: Timeline, C: Restart<S, R,
     Keeper<R, T>,
     Result<(), Stop>,
 )
-    ensures { IsClean R.Store result.2 → (b : ActState) (told : List Told)
-        → Stands S.Store (MayBe b told) keeper
-        → Finds R.Store (MayBe b (told_by_import (Some (rows_of text.now)) result.1
-        ++ (told_by (under reference command) result.0 ++ told))) result.2 result.3 }
+    ensures { IsClean result.2 → (b : ActState) (told : List Told) → Stands (MayBe b told) keeper
+        → Finds (MayBe b (told_by_import (Some (rows_of text.now)) result.1 ++
+        (told_by (under reference command) result.0 ++ told))) result.2 result.3 }
 {
-    restart_law::<S, R>();
+    restart_law::<S, T, R, T>();
     let sent = act(&mut keeper, reference, command);
     let done = import_text(alloc, text, &mut keeper);
     let mut next = crash.restart(keeper);
@@ -189,13 +195,17 @@ pub fn create_import_restart_load<S: Alter, R: Alter, T: Timeline, C: Restart<S,
     Result<ImportReport, ImportFault>,
     Keeper<R, T>,
 )
+<<<<<<< HEAD
     ensures begun { IsClean R.Store result.2 → OnOk result.0
         (BegunNumbered R.Store first.now days zone.now
+=======
+    ensures { IsClean result.2 → OnOk result.0 (BegunNumbered first.now days zone.now
+>>>>>>> b4b8cd67 (Above the storage layer no contract names the store, its tree or its schema (crates above ob_store are not checked yet))
         (told_by_import (Some (rows_of text.now)) result.1) result.2) }
     ensures created { (made : KeeperValue S)
         × Created S.Store keeper made first.now days zone.now result.0 }
 {
-    restart_law::<S, R>();
+    restart_law::<S, T, R, T>();
     crash_law::<S, R>();
     let made = keeper.create(first, days, zone);
     let done = import_text(alloc, text, &mut keeper);

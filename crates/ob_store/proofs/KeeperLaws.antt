@@ -10,7 +10,8 @@ use Rattle.ob_record.specs.Tables.{tables_of}
 use Rattle.ob_sql_check.specs.OldTables.{HasOldBook, old_tables_of}
 use Rattle.sqlite.specs.Held.{state}
 use Rattle.ob_store.specs.Calls.{CommitsNothing, MigratesOldTables, WasEmpty}
-use Rattle.ob_store.specs.Keepers.{CrashLeaves, Ghosts, HasOldTables, IsClean, IsOpen, KeeperValue, StatesOld, Stores, StoresEither, StoresEitherVersion, StoresNumbers, StoresOld}
+use Rattle.ob_store.specs.Keepers.{CrashLeaves, Ghosts, HasOldTables, IsClean, IsOpen, StatesOld, Stores, StoresEither, StoresEitherVersion, StoresNumbers, StoresOld}
+use Rattle.ob_store.specs.declared.keeper.Keeper.{Keeper}
 use Rattle.ob_store.specs.Loading.{trees_in}
 use Rattle.ob_store.proofs.OldBooks.{has_one}
 use Rattle.ob_store.proofs.Upgrading.{two_versions}
@@ -21,39 +22,39 @@ not_empty e = let n : ◌≡◌ {A = ℕ} 11 0 = ap (λ s. length s.tables) e in
 not_empty_old : old_schema ≡ no_schema → ⊥
 not_empty_old e = let n : ◌≡◌ {A = ℕ} 10 0 = ap (λ s. length s.tables) e in omega (arith, n)
 
-module _ {S : Type 0} (g : Ghosts S) where
+module _ {S T : Type 0} {g : Ghosts S} where
   -- ---- what a crash leaves
 
   -- a crash leaves the book that is kept
-  pub stored_left : {I : Type 0} (k : KeeperValue S) (books : I → ActState) (b : ActState) (i : I) → Stores g k b → b ≡ books i → CrashLeaves g k books
+  pub stored_left : {I : Type 0} (k : Keeper S T g) (books : I → ActState) (b : ActState) (i : I) → Stores k b → b ≡ books i → CrashLeaves k books
   stored_left k books b i keeps is clean trees may = (i, subst (λ (x : ActState). Leaves (tables_of x) trees) is (keeps.kept.left clean trees may))
 
   -- or one of the two that may be
-  pub either_left : {I : Type 0} (k : KeeperValue S) (books : I → ActState) (b c : ActState) (i j : I) → StoresEither g k b c → b ≡ books i → c ≡ books j → CrashLeaves g k books
+  pub either_left : {I : Type 0} (k : Keeper S T g) (books : I → ActState) (b c : ActState) (i j : I) → StoresEither k b c → b ≡ books i → c ≡ books j → CrashLeaves k books
   either_left k books b c i j keeps first second clean trees may = elim (keeps.kept.left clean trees may) [
     | inl one ↦ (i, subst (λ (x : ActState). Leaves (tables_of x) trees) first one)
     | inr other ↦ (j, subst (λ (x : ActState). Leaves (tables_of x) trees) second other)
   ]
 
   -- hidden row numbers stay where nothing was committed
-  pub numbers_stay : (old new : KeeperValue S) → CommitsNothing g old new → StoresNumbers g old → StoresNumbers g new
-  numbers_stay old new = numbers_survive (state g old.conn) (state g new.conn)
+  pub numbers_stay : (old new : Keeper S T g) → CommitsNothing old new → StoresNumbers old → StoresNumbers new
+  numbers_stay old new = numbers_survive (state g old.parts.conn) (state g new.parts.conn)
 
   -- ---- a book of version 1
 
   -- what is kept in the tables of version 1 is so in those of either version
-  pub as_either_version : (k : KeeperValue S) (b : ActState) → StoresOld g k b → StoresEitherVersion g k b
+  pub as_either_version : (k : Keeper S T g) (b : ActState) → StoresOld k b → StoresEitherVersion k b
   as_either_version k b keeps = record {
     kept = record { settled = keeps.kept.settled; left = λ clean trees may. inl (keeps.kept.left clean trees may) };
     reached = keeps.reached;
     valid = keeps.valid;
   }
 
-  module _ (k : KeeperValue S) (b : ActState) (keeps : StoresEitherVersion g k b) (clean : IsClean g k) (live : IsOpen g k) where
-    settled_old : IsSettledIn One (state g k.conn) (old_tables_of b)
+  module _ (k : Keeper S T g) (b : ActState) (keeps : StoresEitherVersion k b) (clean : IsClean k) (live : IsOpen k) where
+    settled_old : IsSettledIn One (state g k.parts.conn) (old_tables_of b)
     settled_old = keeps.kept.settled clean live
 
-    has_old_book : HasOldBook (trees_in g k.conn) b
+    has_old_book : HasOldBook (trees_in g k.parts.conn) b
     has_old_book = record { reached = keeps.reached; valid = keeps.valid; tables = settled_old.holds.rows }
 
     -- an open store shows the tables of version 1
@@ -61,25 +62,25 @@ module _ {S : Type 0} (g : Ghosts S) where
     shows_old = settled_old.schema
 
     -- their heading states it
-    pub states_old : StatesOld g k
-    states_old = has_one (trees_in g k.conn) b has_old_book
+    pub states_old : StatesOld k
+    states_old = has_one (trees_in g k.parts.conn) b has_old_book
 
     -- where they became those of version 2, they are the book's
-    pub migrated_stores : (new : KeeperValue S) → MigratesOldTables g k new (Ok true) → Stores g new b
-    migrated_stores new made = subst (λ (x : ActState). Stores g new x) (sym (made.1.1 b has_old_book)) made.2
+    pub migrated_stores : (new : Keeper S T g) → MigratesOldTables k new (Ok true) → Stores new b
+    migrated_stores new made = subst (λ (x : ActState). Stores new x) (sym (made.1.1 b has_old_book)) made.2
 
     -- they were not of version 2 before
-    pub migrated_never : (new : KeeperValue S) → MigratesOldTables g k new (Ok false) → ⊥
-    migrated_never new told = two_versions (trees_in g k.conn) states_old told.0
+    pub migrated_never : (new : Keeper S T g) → MigratesOldTables k new (Ok false) → ⊥
+    migrated_never new told = two_versions (trees_in g k.parts.conn) states_old told.0
 
   -- ---- a database that held nothing kept no book
 
-  module _ (old new : KeeperValue S) (b : ActState) (was_clean : IsClean g old) (clean : IsClean g new) (empty : WasEmpty g old new) where
-    pub none_stored : Stores g old b → ⊥
+  module _ (old new : Keeper S T g) (b : ActState) (was_clean : IsClean old) (clean : IsClean new) (empty : WasEmpty old new) where
+    pub none_stored : Stores old b → ⊥
     none_stored keeps = not_empty (sym (keeps.kept.settled was_clean (empty.live clean)).schema ∙ empty.schema)
 
-    pub none_of_two : (c : ActState) → StoresEither g old b c → ⊥
+    pub none_of_two : (c : ActState) → StoresEither old b c → ⊥
     none_of_two c keeps = not_empty (sym (keeps.kept.settled was_clean (empty.live clean)).schema ∙ empty.schema)
 
-    pub none_of_versions : StoresEitherVersion g old b → ⊥
+    pub none_of_versions : StoresEitherVersion old b → ⊥
     none_of_versions keeps = not_empty_old (sym (shows_old old b keeps was_clean (empty.live clean)) ∙ empty.schema)

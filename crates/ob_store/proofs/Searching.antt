@@ -1,6 +1,9 @@
 -- How often the calls of a keeper search.
-use Rattle.std.proofs.Common.{◌≡◌, ◌∙◌, ℕ, ◌+◌, ◌≤◌, List, [], ◌∷◌, ◌++◌, None, Some, Option, Ok, Err, refl, sym, ap, ap₂, arith}
+use Rattle.std.proofs.Common.{◌≡◌, ◌∙◌, ℕ, ◌+◌, ◌≤◌, List, [], ◌∷◌, ◌++◌, None, Some, Option, Ok, Err, refl, sym, subst, ap, ap₂, arith}
 use Rattle.std.proofs.lemmas.List.Sums.{fold-append}
+use Rattle.std.specs.Prelude.{IfSome}
+use Rattle.sqlite.specs.Held.{Held, state}
+use Rattle.sqlite.specs.State.{HasCleanDisk}
 use Rattle.sqlite.specs.Tree.{Trees}
 use Rattle.sqlite_trees.specs.declared.store.Store.{Ghosts}
 use Rattle.ob_time.specs.Calendar.{Calendar}
@@ -20,12 +23,14 @@ use Rattle.ob_sql_read.specs.Listing.{filed_of}
 use Rattle.ob_sql_read.specs.Moves.{commands_of}
 use Rattle.ob_store.specs.declared.named.Named.{Named}
 use Rattle.ob_store.specs.Finding.{IsNamed}
-use Rattle.ob_store.specs.Keepers.{OnlySearches}
-use Rattle.ob_store.specs.Keeping.{KeeperValue}
+use Rattle.ob_store.specs.Calls.{StillStores, WasClean}
+use Rattle.ob_store.specs.Keepers.{OnlySearches, Ties}
+use Rattle.ob_store.specs.Keeping.{KeepsBook, KeepsOn}
 use Rattle.ob_store.specs.Laws.{Laws}
 use Rattle.ob_store.specs.Leading.{IsNewBook}
 use Rattle.ob_store.specs.Loading.{trees_in}
 use Rattle.ob_store.specs.Searching.{IsSearchedBy, IsSearchedFor, LoadsAsReplayed, ReplayGrows}
+use Rattle.ob_store.specs.declared.keeper.Keeper.{Keeper}
 use Rattle.ob_store.proofs.Crashing.{book_left}
 use Rattle.ob_store.proofs.Leading.{commands_are, from_is}
 
@@ -75,9 +80,26 @@ module _ (book : Option BookValue) (it : BookValue) (some : book ≡ Some it) wh
 pub searched_over : (bound : Bound) (x s : BookState) (command : Command) (old n m : ℕ) → x ≡ s → old ≡ n → m ≤ n + most_searches bound x command → m ≤ old + most_searches bound s command
 searched_over bound x s command old n m same is most = let here = ap (λ y. most_searches bound y command) same in omega (arith, is, most, here)
 
--- where only the network was searched, a keeper is what it was but for the searches
-pub only_searched : {S : Type 0} (old new : KeeperValue S) → OnlySearches old new → record old { searches = new.searches } ≡ new
-only_searched {S} old new same = ap₂ (λ c o. let k : KeeperValue S = record { conn = c; book = o; searches = new.searches } in k) (sym same.0) (sym same.1)
+-- where only the network was searched, a keeper is tied to what it was tied to
+pub still_tied : {S T : Type 0} {g : Ghosts S} (old new : Keeper S T g) → OnlySearches old new → (b : ActState) → Ties old b → Ties new b
+still_tied {S} {T} {g} old new same b ties = record {
+  kept = subst (λ (h : Held S). KeepsBook (state g h) b) (sym same.0) ties.kept;
+  book = subst (λ (o : Option BookState). IfSome o (λ s. s ≡ b.book)) (sym same.1) ties.book;
+}
+
+-- its store keeps on what it kept
+pub still_stores : {S T : Type 0} {g : Ghosts S} (old new : Keeper S T g) → OnlySearches old new → StillStores old new
+still_stores {S} {T} {g} old new same =
+    subst (λ (h : Held S). KeepsOn (state g old.parts.conn) (state g h)) (sym same.0) (record {
+      book = λ b keeps. keeps;
+      either = λ b c keeps. keeps;
+      old_book = λ b keeps. keeps;
+      version = λ b keeps. keeps;
+    })
+
+-- and its disk is as clean
+pub clean_before : {S T : Type 0} {g : Ghosts S} (old new : Keeper S T g) → OnlySearches old new → WasClean old new
+clean_before {S} {T} {g} old new same clean = subst (λ (h : Held S). HasCleanDisk (state g h)) same.0 clean
 
 -- ---- calls one after another
 module _ (both : SearchesOfBoth) (add_up : SearchesAddUp) where

@@ -1,75 +1,102 @@
--- What a keeper has of a book, as the crates above state it: no store, table or file is named by them.
-use Rattle.std.specs.Prelude.{◌≡◌, IsSome, IsTrue}
+-- What a keeper has of a book, as the crates above state it: no store, table or file is named by them. A keeper's type says which
+-- store it is over, so these words take the keeper alone.
+use Rattle.std.specs.Prelude.{◌≡◌, ◌≤◌, ℕ, Option, None, IsSome, IsTrue}
 pub use Rattle.sqlite_trees.specs.declared.store.Store.{Ghosts}
 use Rattle.sqlite.specs.Tree.{Trees}
-use Rattle.sqlite.specs.Held.{state}
+use Rattle.sqlite.specs.Held.{Held, state}
 use Rattle.sqlite.specs.State.{HasCleanDisk, IsLive}
+use Rattle.ob_state.specs.State.{BookState}
 use Rattle.ob_book.specs.Acts.{ActState}
 use Rattle.ob_sql_rows.specs.Creation.{old_schema}
 use Rattle.ob_sql_rows.specs.Schema.{book_schema, no_schema}
 use Rattle.ob_sql_write.specs.Keeps.{KeepsNumbers, Leaves}
 use Rattle.ob_sql_read.specs.Version.{HasVersion}
 use Rattle.ob_record.specs.Tables.{tables_of}
+use Rattle.ob_store.specs.Keeping as keeping
 use Rattle.ob_store.specs.Keeping.{KeepsBook, KeepsEitherBook, KeepsEitherVersion, KeepsOldBook}
-pub use Rattle.ob_store.specs.Keeping.{KeeperValue, Ties}
 use Rattle.ob_store.specs.Loading.{trees_in}
+use Rattle.ob_store.specs.declared.keeper.Keeper.{Keeper}
 
--- its database has the tables of version 2
-abbrev pub HasTables : {S : Type 0} → KeeperValue S → Type 0
-HasTables k = k.conn.schema ≡ book_schema
+module _ {S T : Type 0} {g : Ghosts S} where
+  -- the state of its book, where there is one
+  abbrev pub book_of : Keeper S T g → Option BookState
+  book_of k = k.parts.book
 
--- its database has the tables of version 1
-abbrev pub HasOldTables : {S : Type 0} → KeeperValue S → Type 0
-HasOldTables k = k.conn.schema ≡ old_schema
+  -- its connection to the store
+  abbrev pub connection_of : Keeper S T g → Held S
+  connection_of k = k.parts.conn
 
--- its store and its book are as they were; only the network of the book may have been searched
-abbrev pub OnlySearches : {S : Type 0} → KeeperValue S → KeeperValue S → Type 0
-OnlySearches old new = (new.conn ≡ old.conn) × (new.book ≡ old.book)
+  -- how often the network of that book was searched since the book was made; 0 where there is no book
+  abbrev pub searches_of : Keeper S T g → ℕ
+  searches_of k = k.parts.searches
 
-module _ {S : Type 0} (g : Ghosts S) where
+  -- its store and its book are as they were; only the network of the book may have been searched
+  abbrev pub OnlySearches : Keeper S T g → Keeper S T g → Type 0
+  OnlySearches old new = (connection_of new ≡ connection_of old) × (book_of new ≡ book_of old)
+
+  -- the network of its book was searched no more often than before
+  abbrev pub SearchesNoMore : Keeper S T g → Keeper S T g → Type 0
+  SearchesNoMore old new = searches_of new ≤ searches_of old
+
+  -- its queries may take as many steps as they need
+  abbrev pub IsUnlimited : Keeper S T g → Type 0
+  IsUnlimited k = k.parts.conn.step_limit ≡ None
+
+  -- its database has the tables of version 2
+  abbrev pub HasTables : Keeper S T g → Type 0
+  HasTables k = k.parts.conn.schema ≡ book_schema
+
+  -- its database has the tables of version 1
+  abbrev pub HasOldTables : Keeper S T g → Type 0
+  HasOldTables k = k.parts.conn.schema ≡ old_schema
+
   -- its disk has returned what was written so far
-  abbrev pub IsClean : KeeperValue S → Type 0
-  IsClean k = HasCleanDisk (state g k.conn)
+  abbrev pub IsClean : Keeper S T g → Type 0
+  IsClean k = HasCleanDisk (state g k.parts.conn)
 
   -- its store is open
-  abbrev pub IsOpen : KeeperValue S → Type 0
-  IsOpen k = IsTrue (state g k.conn).is_open
+  abbrev pub IsOpen : Keeper S T g → Type 0
+  IsOpen k = IsTrue (state g k.parts.conn).is_open
 
   -- the heading of its tables states version 1
-  abbrev pub StatesOld : KeeperValue S → Type 0
-  StatesOld k = HasVersion 1 (trees_in g k.conn)
+  abbrev pub StatesOld : Keeper S T g → Type 0
+  StatesOld k = HasVersion 1 (trees_in g k.parts.conn)
+
+  -- its store keeps the book and its commands, and its book, where it has one, has this state
+  abbrev pub Ties : Keeper S T g → ActState → Type 0
+  Ties k b = keeping.Ties g k.parts b
 
   -- it has a book, with this state, and its store keeps that
-  abbrev pub Holds : KeeperValue S → ActState → Type 0
-  Holds k b = Ties g k b × IsSome k.book
+  abbrev pub Holds : Keeper S T g → ActState → Type 0
+  Holds k b = Ties k b × IsSome (book_of k)
 
   -- its store keeps the book, and a crash leaves nothing else
-  abbrev pub Stores : KeeperValue S → ActState → Type 0
-  Stores k b = KeepsBook (state g k.conn) b
+  abbrev pub Stores : Keeper S T g → ActState → Type 0
+  Stores k b = KeepsBook (state g k.parts.conn) b
 
   -- while its store is open it keeps the first book; a crash leaves that or the second
-  abbrev pub StoresEither : KeeperValue S → ActState → ActState → Type 0
-  StoresEither k b c = KeepsEitherBook (state g k.conn) b c
+  abbrev pub StoresEither : Keeper S T g → ActState → ActState → Type 0
+  StoresEither k b c = KeepsEitherBook (state g k.parts.conn) b c
 
   -- its store keeps the book in the tables of version 1, and a crash leaves nothing else
-  abbrev pub StoresOld : KeeperValue S → ActState → Type 0
-  StoresOld k b = KeepsOldBook (state g k.conn) b
+  abbrev pub StoresOld : Keeper S T g → ActState → Type 0
+  StoresOld k b = KeepsOldBook (state g k.parts.conn) b
 
   -- while its store is open it keeps the book in the tables of version 1; a crash leaves it in these or in those of version 2
-  abbrev pub StoresEitherVersion : KeeperValue S → ActState → Type 0
-  StoresEitherVersion k b = KeepsEitherVersion (state g k.conn) b
+  abbrev pub StoresEitherVersion : Keeper S T g → ActState → Type 0
+  StoresEitherVersion k b = KeepsEitherVersion (state g k.parts.conn) b
 
   -- if its disk is clean, a crash leaves one of these books
-  abbrev pub CrashLeaves : {I : Type 0} → KeeperValue S → (I → ActState) → Type 0
-  CrashLeaves {I} k books = IsClean k → (trees : Trees) → (state g k.conn).may_leave trees → (i : I) × Leaves (tables_of (books i)) trees
+  abbrev pub CrashLeaves : {I : Type 0} → Keeper S T g → (I → ActState) → Type 0
+  CrashLeaves {I} k books = IsClean k → (trees : Trees) → (state g k.parts.conn).may_leave trees → (i : I) × Leaves (tables_of (books i)) trees
 
   -- whatever a crash leaves has the hidden row numbers 1, 2, 3 and so on
-  abbrev pub StoresNumbers : KeeperValue S → Type 0
-  StoresNumbers k = KeepsNumbers (state g k.conn)
+  abbrev pub StoresNumbers : Keeper S T g → Type 0
+  StoresNumbers k = KeepsNumbers (state g k.parts.conn)
 
   -- its store is open, and its database holds nothing
-  pub record HoldsNothing (k : KeeperValue S) : Type 0 where
-    pub live : IsTrue (state g k.conn).is_open
-    pub whole : IsLive (state g k.conn)
-    pub schema : k.conn.schema ≡ no_schema
-    pub committed : (state g k.conn).now ≡ (state g k.conn).committed
+  pub record HoldsNothing (k : Keeper S T g) : Type 0 where
+    pub live : IsOpen k
+    pub whole : IsLive (state g k.parts.conn)
+    pub schema : k.parts.conn.schema ≡ no_schema
+    pub committed : (state g k.parts.conn).now ≡ (state g k.parts.conn).committed

@@ -1,3 +1,4 @@
+pub mod Over
 pub mod Shapes
 pub mod Keeping
 pub mod Acting

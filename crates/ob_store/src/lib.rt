@@ -17,6 +17,7 @@ mod migrating;
 mod moving;
 mod named;
 mod off;
+mod parts;
 mod reply;
 mod stored;
 mod version;

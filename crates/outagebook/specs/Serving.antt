@@ -4,7 +4,8 @@ use Rattle.ob_base.specs.declared.stop.Stop.{Stop}
 use Rattle.ob_base.specs.declared.stop.Stop.TheVariants.{Fault}
 use Rattle.ob_base.specs.declared.stop.Fault.{Fault as AFault}
 use Rattle.ob_store.specs.Calls.{TellsFaults}
-use Rattle.ob_store.specs.Keepers.{Ghosts, KeeperValue}
+use Rattle.ob_store.specs.Keepers.{Ghosts}
+use Rattle.ob_store.specs.declared.keeper.Keeper.{Keeper}
 use Rattle.ob_desk.specs.Listening.{LeavesKeeper, ServesStreams, most_streams, unserved_fault}
 use Rattle.ob_desk.specs.declared.listen.Unserved.{Unserved}
 use Rattle.ob_desk.specs.declared.listen.Unserved.TheVariants as unserved
@@ -20,13 +21,13 @@ abbrev pub stop_of_end : Result ⊤ Unserved → Result ⊤ Stop
 stop_of_end (Ok done) = Ok tt
 stop_of_end (Err end) = Err (Fault (unserved_fault end))
 
-module _ {S L : Type 0} (g : Ghosts S) (tells : L → AFault → L → Type 0) where
+module _ {S T L : Type 0} {g : Ghosts S} (tells : L → AFault → L → Type 0) where
   -- a desk served so many streams, or fewer where it ended before, gave the faults of streams to its log, left the keeper so, and
   -- has a cause where the store is reported to have failed
-  pub record ServesDesk (streams : ℕ) (old new : KeeperValue S) (before after : L) (result : Result ⊤ Stop) : Type 0 where
+  pub record ServesDesk (streams : ℕ) (old new : Keeper S T g) (before after : L) (result : Result ⊤ Stop) : Type 0 where
     pub end : Result ⊤ Unserved
     pub stopped : result ≡ stop_of_end end
     pub left : ℕ
-    pub served : ServesStreams g tells old new before after (most_streams streams) left end
-    pub keeper : LeavesKeeper g old new end
-    pub faults : TellsFaults g old new (end ≡ Err unserved.Store)
+    pub served : ServesStreams tells old new before after (most_streams streams) left end
+    pub keeper : LeavesKeeper old new end
+    pub faults : TellsFaults old new (end ≡ Err unserved.Store)

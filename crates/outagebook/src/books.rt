@@ -56,11 +56,10 @@ fn run_over<S: Alter, T: Timeline, W: Write>(
     task: FileTask<'_>,
     writer: &mut Watched<W>,
 ) -> Result<(), Unfinished>
-    ensures { RunsTask S.Store ⟦<InputFile<'static> as OpenInput>⟧.opens ⟦<File as Read>⟧.remaining
+    ensures { RunsTask ⟦<InputFile<'static> as OpenInput>⟧.opens ⟦<File as Read>⟧.remaining
         ⟦<OutputFile<'static> as OpenOutput>⟧.opens ⟦<File as Write>⟧.contents
-        ⟦<Server<Sockets<'static>, Stdout, Stderr> as ServeBook<S, T>>⟧.takes
-        ⟦<Server<Sockets<'static>, Stdout, Stderr> as ServeBook<S, T>>⟧.serves W.contents task.entry
-        keeper.old keeper.new writer.old writer.new result }
+        ⟦<Server<Sockets<'static>, Stdout, Stderr> as ServeBook>⟧.takes ⟦<Server<Sockets<'static>, Stdout, Stderr> as ServeBook>⟧.serves W.contents task.entry keeper.old keeper.new writer.old
+        writer.new result }
 {
     let mut telling = Telling::new(rt);
     run_task(rt.alloc(), keeper, task, &mut telling, writer)

@@ -65,7 +65,7 @@ impl SocketServer<'_> {
     }
 }
 
-impl<B: Bind, O: Write, E: Write, S: Alter, T: Timeline> ServeBook<S, T> for Server<B, O, E> {
+impl<B: Bind, O: Write, E: Write> ServeBook for Server<B, O, E> {
     ghost use Rattle.std.specs.Prelude.{◌≡◌};
     ghost use Rattle.outagebook.specs.Ports.{TakesPort};
     ghost use Rattle.outagebook.specs.Serving.{ServesDesk, TellsFault};
@@ -76,13 +76,17 @@ impl<B: Bind, O: Write, E: Write, S: Alter, T: Timeline> ServeBook<S, T> for Ser
         × TakesPort O.contents B.binds old.sockets old.port old.out result new.sockets new.out };
 
     ghost serves = { λ old _ keeper result left new. (new ≡ record old { log = new.log })
-        × ServesDesk S.Store (TellsFault E.contents) old.streams keeper left old.log new.log result };
+        × ServesDesk (TellsFault E.contents) old.streams keeper left old.log new.log result };
 
     fn take(&mut self) -> Result<TcpListener, Stop> {
         take_port(self.log.alloc, &mut self.sockets, self.port, &mut self.out)
     }
 
-    fn serve(&mut self, port: TcpListener, keeper: &mut Keeper<S, T>) -> Result<(), Stop> {
+    fn serve<S: Alter, T: Timeline>(
+        &mut self,
+        port: TcpListener,
+        keeper: &mut Keeper<S, T>,
+    ) -> Result<(), Stop> {
         let mut listener = Listener::new(&port, self.streams);
         stop_of(run_serve(self.log.alloc, &mut listener, keeper, &mut self.log))
     }

@@ -61,7 +61,7 @@ pub struct Server {
     pub tried: bool,
 }
 
-impl<S: Alter, T: Timeline> ServeBook<S, T> for Server {
+impl ServeBook for Server {
     ghost use Rattle.std.specs.Prelude.{⊤};
 
     type Port = Port;
@@ -79,7 +79,11 @@ impl<S: Alter, T: Timeline> ServeBook<S, T> for Server {
         }
     }
 
-    fn serve(&mut self, _port: Port, keeper: &mut Keeper<S, T>) -> Result<(), Stop> {
+    fn serve<S: Alter, T: Timeline>(
+        &mut self,
+        _port: Port,
+        keeper: &mut Keeper<S, T>,
+    ) -> Result<(), Stop> {
         if keeper.book().is_none() {
             return Err(Stop::Fault(Fault::Reopen));
         }

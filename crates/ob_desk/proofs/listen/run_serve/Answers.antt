@@ -9,36 +9,36 @@ use Rattle.ob_desk.proofs.listen.run_serve.Goals as goal
 
 pub returns-in_default-clause-keeper : goal.returns-in_default-clause-keeper
 returns-in_default-clause-keeper g c =
-    leaves-on g.S.Store c.args.keeper.now c.serving.keeper _ refl c.serving.invariant.kept c.serving.invariant.left
+    leaves-on c.args.keeper.now c.serving.keeper _ refl c.serving.invariant.kept c.serving.invariant.left
 
 pub returns-clause-keeper : goal.returns-clause-keeper
 returns-clause-keeper g c =
-    leaves-on g.S.Store c.args.keeper.now c.serving.keeper _ refl c.serving.invariant.kept c.serving.invariant.left
+    leaves-on c.args.keeper.now c.serving.keeper _ refl c.serving.invariant.kept c.serving.invariant.left
 
 pub returns-in-Some-desk_end-clause-keeper : goal.returns-in-Some-desk_end-clause-keeper
 returns-in-Some-desk_end-clause-keeper g c =
     let at = c.serving.keeper in
     let new = c.serve_connection.new.keeper in
     let one = c.in-Err.ensures in
-    leaves-ended g.S.Store c.args.keeper.now at new c.in-Err.fault c.in-Some-desk_end.end (sym c.desk_end.ensures ∙ c.in-Some-desk_end.is)
-    c.serving.invariant.kept c.serving.invariant.left (streamed g.S.Store at new c.in-Err.fault one.kept one.reopen one.left)
+    leaves-ended c.args.keeper.now at new c.in-Err.fault c.in-Some-desk_end.end (sym c.desk_end.ensures ∙ c.in-Some-desk_end.is)
+    c.serving.invariant.kept c.serving.invariant.left (streamed at new c.in-Err.fault one.kept one.reopen one.left)
 
 pub returns-in-Some-desk_end-clause-served : goal.returns-in-Some-desk_end-clause-served
 returns-in-Some-desk_end-clause-served g c =
     let at = c.serving.keeper in
     let new = c.serve_connection.new.keeper in
     let one = c.in-Err.ensures in
-    ended g.S.Store g.L.FaultLog.tells c.args.keeper.now at new c.args.log.now c.serving.log (streams_left c.args.listener.now) (streams_left c.serving.listener) (streams_left c.take.new.self)
+    ended g.L.FaultLog.tells c.args.keeper.now at new c.args.log.now c.serving.log (streams_left c.args.listener.now) (streams_left c.serving.listener) (streams_left c.take.new.self)
     c.in-Err.fault c.in-Some-desk_end.end (sym c.desk_end.ensures ∙ c.in-Some-desk_end.is) c.in-Some.ensures.0 c.serving.invariant.served
-    (streamed g.S.Store at new c.in-Err.fault one.kept one.reopen one.left)
+    (streamed at new c.in-Err.fault one.kept one.reopen one.left)
 
 pub serving-init : goal.serving-init
 serving-init g c = record {
-  kept = kept-none g.S.Store c.args.keeper.now;
+  kept = kept-none c.args.keeper.now;
   left = λ disk b ties some. ([], ties);
-  served = starts g.S.Store g.L.FaultLog.tells c.args.keeper.now c.args.log.now (streams_left c.args.listener.now);
+  served = starts g.L.FaultLog.tells c.args.keeper.now c.args.log.now (streams_left c.args.listener.now);
   well = λ fresh. fresh;
-  tells = tells_nothing g.S.Store c.args.keeper.now c.args.keeper.now ⊥ refl (λ e. e);
+  tells = tells_nothing c.args.keeper.now c.args.keeper.now ⊥ refl (λ e. e);
 }
 
 pub serving-preserved : goal.serving-preserved
@@ -47,40 +47,40 @@ serving-preserved g c =
     let at = c.serving.keeper in
     let new = c.serve_connection.new.keeper in
     let so-far = c.serving.invariant in
-    let more = goes g.S.Store g.L.FaultLog.tells was at new c.args.log.now c.serving.log in
+    let more = goes g.L.FaultLog.tells was at new c.args.log.now c.serving.log in
     elim c.match-serve_connection.branch [
       | in-Ok w ↦
           let one = w.in-Ok.ensures in record {
-            kept = kept-then g.S.Store was at new None so-far.kept one.kept;
-            left = left-more g.S.Store was at new None so-far.kept one.kept so-far.left one.left;
+            kept = kept-then was at new None so-far.kept one.kept;
+            left = left-more was at new None so-far.kept one.kept so-far.left one.left;
             served = rw w.log-is (more c.serving.log (streams_left c.args.listener.now) (streams_left c.serving.listener) (streams_left c.take.new.self) None c.in-Some.ensures.0 so-far.served
-                (streamed-on g.S.Store at new one.kept one.left, refl));
+                (streamed-on at new one.kept one.left, refl));
             well = λ fresh. c.in-Some.ensures.1;
-            tells = desk-tells g.S.Store was at new _ ⊥ (λ e. absurd e) so-far.kept so-far.left so-far.tells one.tells;
+            tells = desk-tells was at new _ ⊥ (λ e. absurd e) so-far.kept so-far.left so-far.tells one.tells;
           }
       | in-Err+in-None w ↦
           let one = w.in-Err.ensures in
           let fault = w.in-Err.fault in
           let on = sym w.desk_end.ensures ∙ w.in-None.is in
-          let kept = kept-on g.S.Store at new fault on one.kept in record {
-            kept = kept-then g.S.Store was at new None so-far.kept kept;
-            left = left-more g.S.Store was at new None so-far.kept kept so-far.left (λ disk b ties some. left-on g.S.Store new b fault on (one.left disk b ties some));
+          let kept = kept-on at new fault on one.kept in record {
+            kept = kept-then was at new None so-far.kept kept;
+            left = left-more was at new None so-far.kept kept so-far.left (λ disk b ties some. left-on new b fault on (one.left disk b ties some));
             served = rw w.log-is (more w.tell.new.self (streams_left c.args.listener.now) (streams_left c.serving.listener) (streams_left c.take.new.self) (Some fault) c.in-Some.ensures.0 so-far.served
-                (streamed g.S.Store at new fault one.kept one.reopen one.left, on, w.tell.ensures));
+                (streamed at new fault one.kept one.reopen one.left, on, w.tell.ensures));
             well = λ fresh. c.in-Some.ensures.1;
-            tells = desk-tells g.S.Store was at new _ ⊥ (λ e. absurd e) so-far.kept so-far.left so-far.tells one.tells;
+            tells = desk-tells was at new _ ⊥ (λ e. absurd e) so-far.kept so-far.left so-far.tells one.tells;
           }
     ]
 
 pub returns-in_default-clause-tells : goal.returns-in_default-clause-tells
-returns-in_default-clause-tells g c = tells_as g.S.Store c.args.keeper.now c.serving.keeper ⊥ _ listener-no-store c.serving.invariant.tells
+returns-in_default-clause-tells g c = tells_as c.args.keeper.now c.serving.keeper ⊥ _ listener-no-store c.serving.invariant.tells
 
 pub returns-clause-tells : goal.returns-clause-tells
-returns-clause-tells g c = tells_as g.S.Store c.args.keeper.now c.serving.keeper ⊥ _ (served-no-store tt) c.serving.invariant.tells
+returns-clause-tells g c = tells_as c.args.keeper.now c.serving.keeper ⊥ _ (served-no-store tt) c.serving.invariant.tells
 
 pub returns-in-Some-desk_end-clause-tells : goal.returns-in-Some-desk_end-clause-tells
 returns-in-Some-desk_end-clause-tells g c =
     let at = c.serving.keeper in
     let new = c.serve_connection.new.keeper in
-    desk-tells g.S.Store c.args.keeper.now at new _ _ (ended-by-store c.in-Err.fault c.in-Some-desk_end.end (sym c.desk_end.ensures ∙ c.in-Some-desk_end.is))
+    desk-tells c.args.keeper.now at new _ _ (ended-by-store c.in-Err.fault c.in-Some-desk_end.end (sym c.desk_end.ensures ∙ c.in-Some-desk_end.is))
     c.serving.invariant.kept c.serving.invariant.left c.serving.invariant.tells c.in-Err.ensures.tells

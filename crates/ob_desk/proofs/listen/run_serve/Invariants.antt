@@ -9,11 +9,11 @@ use Rattle.ob_desk.proofs.listen.run_serve.Given as goal
 
 abbrev pub invariant-serving : goal.invariant-serving
 invariant-serving g l = record {
-  kept : IsKept g.S.Store l.fn.keeper l.keeper None;
-  left : IfHeld g.S.Store l.fn.keeper l.keeper (λ b. IsLeft g.S.Store l.keeper b None);
-  served : SoFar g.S.Store g.L.FaultLog.tells l.fn.keeper l.keeper l.fn.log l.log (streams_left l.fn.listener) (streams_left l.listener);
+  kept : IsKept l.fn.keeper l.keeper None;
+  left : IfHeld l.fn.keeper l.keeper (λ b. IsLeft l.keeper b None);
+  served : SoFar g.L.FaultLog.tells l.fn.keeper l.keeper l.fn.log l.log (streams_left l.fn.listener) (streams_left l.listener);
   well : has_failed l.fn.listener ≡ false → has_failed l.listener ≡ false;
-  tells : TellsFaults g.S.Store l.fn.keeper l.keeper ⊥;
+  tells : TellsFaults l.fn.keeper l.keeper ⊥;
 }
 
 abbrev pub decreases-serving : goal.decreases-serving

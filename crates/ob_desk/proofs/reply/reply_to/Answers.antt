@@ -11,24 +11,24 @@ use Rattle.ob_desk.proofs.reply.reply_to.Goals as goal
 pub returns-in-Ok-clause-answered : goal.returns-in-Ok-clause-answered
 returns-in-Ok-clause-answered g c =
     let called = c.in-Ok.ensures in
-    let still = still-some g.S.Store c.args.keeper.now c.answer.new.keeper (kept-by g.S.Store c.args.keeper.now c.answer.new.keeper (Ok c.in-Ok.text) _ called.clean called.unopened called.dropped) in
-    written-answered g.S.Store c.write_text.result _ _ c.args.keeper.now c.answer.new.keeper (message_of c.args.request.now) c.args.ends c.in-Ok.text
+    let still = still-some c.args.keeper.now c.answer.new.keeper (kept-by c.args.keeper.now c.answer.new.keeper (Ok c.in-Ok.text) _ called.clean called.unopened called.dropped) in
+    written-answered c.write_text.result _ _ c.args.keeper.now c.answer.new.keeper (message_of c.args.request.now) c.args.ends c.in-Ok.text
     called.unopened still called.answered (rw c.bytes.ensures at c.write_text.ensures.whole)
 
 pub returns-in-Ok-clause-unanswered : goal.returns-in-Ok-clause-unanswered
 returns-in-Ok-clause-unanswered g c =
     let called = c.in-Ok.ensures in
-    let still = still-some g.S.Store c.args.keeper.now c.answer.new.keeper (kept-by g.S.Store c.args.keeper.now c.answer.new.keeper (Ok c.in-Ok.text) _ called.clean called.unopened called.dropped) in
-    written-less g.S.Store c.write_text.result c.write_text.new.writer _ _ c.args.keeper.now c.answer.new.keeper (message_of c.args.request.now) c.args.ends c.in-Ok.text
+    let still = still-some c.args.keeper.now c.answer.new.keeper (kept-by c.args.keeper.now c.answer.new.keeper (Ok c.in-Ok.text) _ called.clean called.unopened called.dropped) in
+    written-less c.write_text.result c.write_text.new.writer _ _ c.args.keeper.now c.answer.new.keeper (message_of c.args.request.now) c.args.ends c.in-Ok.text
     called.unopened still called.answered (rw c.bytes.ensures at c.write_text.ensures.front) c.write_text.ensures.fault
 
 pub returns-in-Ok-clause-cause : goal.returns-in-Ok-clause-cause
-returns-in-Ok-clause-cause g c = written-cause g.S.Store c.write_text.result c.write_text.new.writer c.args.keeper.now c.write_text.ensures.fault
+returns-in-Ok-clause-cause g c = written-cause c.write_text.result c.write_text.new.writer c.args.keeper.now c.write_text.ensures.fault
 
 pub returns-in-Err-clause-unanswered : goal.returns-in-Err-clause-unanswered
 returns-in-Err-clause-unanswered g c =
     let called = c.in-Err.ensures in
-    unanswered g.S.Store c.write_text-in-Err.new.writer _ _ c.args.keeper.now c.answer.new.keeper (message_of c.args.request.now) c.args.ends c.in-Err.fault
+    unanswered c.write_text-in-Err.new.writer _ _ c.args.keeper.now c.answer.new.keeper (message_of c.args.request.now) c.args.ends c.in-Err.fault
     called.unopened called.faults called.answered
     (as-written c.write_text-in-Err.result c.write_text-in-Err.new.writer _ _ _ (rw (c.empty_reply.ensures Json) at c.write_text-in-Err.ensures.whole)
     (rw (c.empty_reply.ensures Json) at c.write_text-in-Err.ensures.front) c.write_text-in-Err.ensures.fault)
@@ -36,14 +36,14 @@ returns-in-Err-clause-unanswered g c =
 pub returns-in-Err-clause-cause : goal.returns-in-Err-clause-cause
 returns-in-Err-clause-cause g c =
     let called = c.in-Err.ensures in
-    answer-cause g.S.Store c.write_text-in-Err.new.writer c.args.keeper.now c.answer.new.keeper (message_of c.args.request.now) c.args.ends c.in-Err.fault called.unopened called.faults
+    answer-cause c.write_text-in-Err.new.writer c.args.keeper.now c.answer.new.keeper (message_of c.args.request.now) c.args.ends c.in-Err.fault called.unopened called.faults
 
 pub returns-in-Ok-clause-tells : goal.returns-in-Ok-clause-tells
 returns-in-Ok-clause-tells g c =
-    tells_as g.S.Store c.args.keeper.now c.answer.new.keeper _ _ (λ e. absurd (written-no-store c.write_text.result c.write_text.new.writer c.write_text.ensures.fault e)) c.in-Ok.ensures.tells
+    tells_as c.args.keeper.now c.answer.new.keeper _ _ (λ e. absurd (written-no-store c.write_text.result c.write_text.new.writer c.write_text.ensures.fault e)) c.in-Ok.ensures.tells
 
 pub returns-in-Err-clause-tells : goal.returns-in-Err-clause-tells
-returns-in-Err-clause-tells g c = tells_as g.S.Store c.args.keeper.now c.answer.new.keeper _ _ (same-err c.in-Err.fault) c.in-Err.ensures.tells
+returns-in-Err-clause-tells g c = tells_as c.args.keeper.now c.answer.new.keeper _ _ (same-err c.in-Err.fault) c.in-Err.ensures.tells
 
 pub returns-in-Ok-clause-tries : goal.returns-in-Ok-clause-tries
 returns-in-Ok-clause-tries g c = c.write_text.ensures.tries

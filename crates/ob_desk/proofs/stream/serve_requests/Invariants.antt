@@ -11,12 +11,12 @@ use Rattle.ob_desk.proofs.stream.serve_requests.Given as goal
 
 abbrev pub invariant-requests : goal.invariant-requests
 invariant-requests g l = record {
-  run : SoFar g.S.Store (watched_bytes g.R.Read.remaining l.fn.reader) (unread l.ahead (watched_bytes g.R.Read.remaining l.reader))
+  run : SoFar (watched_bytes g.R.Read.remaining l.fn.reader) (unread l.ahead (watched_bytes g.R.Read.remaining l.reader))
       (watched_bytes g.W.Write.contents l.fn.writer) (watched_bytes g.W.Write.contents l.writer) l.fn.keeper l.keeper l.allowed;
-  kept : IsKept g.S.Store l.fn.keeper l.keeper None;
+  kept : IsKept l.fn.keeper l.keeper None;
   some : 1 ≤ l.allowed;
   most : l.allowed ≤ 1000;
-  tells : TellsFaults g.S.Store l.fn.keeper l.keeper ⊥;
+  tells : TellsFaults l.fn.keeper l.keeper ⊥;
   tries : BothTryAll 65536 (retries_left l.retries) l.fn.reader l.reader l.fn.writer l.writer;
 }
 

@@ -9,18 +9,18 @@ use Rattle.ob_desk.proofs.stream.serve_stream.Goals as goal
 pub returns-in_err-ahead-clause-fails : goal.returns-in_err-ahead-clause-fails
 returns-in_err-ahead-clause-fails g c =
     let p = err_from_is_err_and c.from_residual.result c.from_residual.ensures.1 in
-    rw (p.1, p.2, c.in_err-ahead.ensures.fault) (fails-first g.S.Store _ _ _ c.args.reader.now c.args.writer.now c.args.keeper.now)
+    rw (p.1, p.2, c.in_err-ahead.ensures.fault) (fails-first _ _ _ c.args.reader.now c.args.writer.now c.args.keeper.now)
 
 pub returns-in_default-clause-fails : goal.returns-in_default-clause-fails
-returns-in_default-clause-fails g c = fails-first g.S.Store _ _ _ c.args.reader.now c.args.writer.now c.args.keeper.now
+returns-in_default-clause-fails g c = fails-first _ _ _ c.args.reader.now c.args.writer.now c.args.keeper.now
 
 pub returns-in_err-ahead-clause-tells : goal.returns-in_err-ahead-clause-tells
 returns-in_err-ahead-clause-tells g c =
     let p = err_from_is_err_and c.from_residual.result c.from_residual.ensures.1 in
-    rw (p.1, p.2, c.in_err-ahead.ensures.fault) (tells_nothing g.S.Store c.args.keeper.now c.args.keeper.now _ refl memory-no-store)
+    rw (p.1, p.2, c.in_err-ahead.ensures.fault) (tells_nothing c.args.keeper.now c.args.keeper.now _ refl memory-no-store)
 
 pub returns-in_default-clause-tells : goal.returns-in_default-clause-tells
-returns-in_default-clause-tells g c = tells_nothing g.S.Store c.args.keeper.now c.args.keeper.now _ refl memory-no-store
+returns-in_default-clause-tells g c = tells_nothing c.args.keeper.now c.args.keeper.now _ refl memory-no-store
 
 pub returns-clause-tells : goal.returns-clause-tells
 returns-clause-tells g c = c.serve_requests.ensures.tells

@@ -12,7 +12,7 @@ pub returns-in_err-read_request-clause-fails : goal.returns-in_err-read_request-
 returns-in_err-read_request-clause-fails g c =
     let p = err_from_is_err_and c.from_residual.result c.from_residual.ensures.1 in
     rw (p.1, p.2)
-    (turn-stops g.S.Store c.args.allowed _ _ _ _ c.read_request.new.reader c.read_request.new.writer c.args.keeper.now c.in_err-read_request.field-0.0 c.in_err-read_request.ensures.fault)
+    (turn-stops c.args.allowed _ _ _ _ c.read_request.new.reader c.read_request.new.writer c.args.keeper.now c.in_err-read_request.field-0.0 c.in_err-read_request.ensures.fault)
 
 pub returns-in_err-write_text-in-Refused-clause-fails : goal.returns-in_err-write_text-in-Refused-clause-fails
 returns-in_err-write_text-in-Refused-clause-fails g c =
@@ -20,7 +20,7 @@ returns-in_err-write_text-in-Refused-clause-fails g c =
     let reads = rw c.in-Refused.is at c.in_ok-read_request.ensures.next in
     let front = rw (c.empty_reply.ensures Json, c.head_status.ensures) at c.in_err-write_text-in-Refused.ensures.front in
     rw (p.1, p.2, c.in_err-write_text-in-Refused.ensures.fault.0)
-    (turn-unrefused g.S.Store c.args.allowed _ _ _ _ _ c.read_request.new.reader c.write_text.new.writer c.args.keeper.now c.in-Refused.refusal reads.0 reads.1 front
+    (turn-unrefused c.args.allowed _ _ _ _ _ c.read_request.new.reader c.write_text.new.writer c.args.keeper.now c.in-Refused.refusal reads.0 reads.1 front
     c.in_err-write_text-in-Refused.ensures.fault.1)
 
 pub returns-in_err-reply_to-in-Request-clause-fails : goal.returns-in_err-reply_to-in-Request-clause-fails
@@ -28,50 +28,50 @@ returns-in_err-reply_to-in-Request-clause-fails g c =
     let p = err_from_is_err_and c.from_residual-in_err-reply_to-in-Request.result c.from_residual-in_err-reply_to-in-Request.ensures.1 in
     let reads = rw c.in-Request.is at c.in_ok-read_request.ensures.next in
     rw (p.1, p.2)
-    (turn-unanswered g.S.Store c.args.allowed _ _ _ _ _ _ c.read_request.new.reader c.reply_to.new.writer c.args.keeper.now c.reply_to.new.keeper (message_of c.in-Request.request)
+    (turn-unanswered c.args.allowed _ _ _ _ _ _ c.read_request.new.reader c.reply_to.new.writer c.args.keeper.now c.reply_to.new.keeper (message_of c.in-Request.request)
     c.ends_stream-ends.result c.in_err-reply_to-in-Request.field-0.0 reads.0 reads.1 c.ends_stream-ends.ensures
     c.in_err-reply_to-in-Request.ensures.unanswered c.in_err-reply_to-in-Request.ensures.cause)
 
 pub returns-in-Cut-clause-fails : goal.returns-in-Cut-clause-fails
 returns-in-Cut-clause-fails g c =
-    turn-cut g.S.Store c.args.allowed _ None _ _ _ c.read_request.new.reader c.read_request.new.writer c.args.keeper.now (rw c.in-Cut.is at c.in_ok-read_request.ensures.next)
+    turn-cut c.args.allowed _ None _ _ _ c.read_request.new.reader c.read_request.new.writer c.args.keeper.now (rw c.in-Cut.is at c.in_ok-read_request.ensures.next)
 
 pub returns-in_ok-reply_to-in-Request-clause-turn : goal.returns-in_ok-reply_to-in-Request-clause-turn
 returns-in_ok-reply_to-in-Request-clause-turn g c =
     let reads = rw c.in-Request.is at c.in_ok-read_request.ensures.next in
-    turn-answered g.S.Store c.args.allowed _ _ _ _ _ c.args.keeper.now c.reply_to.new.keeper (message_of c.in-Request.request) c.ends_stream-ends.result
+    turn-answered c.args.allowed _ _ _ _ _ c.args.keeper.now c.reply_to.new.keeper (message_of c.in-Request.request) c.ends_stream-ends.result
     reads.0 reads.1 c.ends_stream-ends.ensures c.in_ok-reply_to-in-Request.ensures.answered
 
 pub returns-in_err-read_request-clause-tells : goal.returns-in_err-read_request-clause-tells
 returns-in_err-read_request-clause-tells g c =
     let p = err_from_is_err_and c.from_residual.result c.from_residual.ensures.1 in
     rw (p.1, p.2)
-    (tells_nothing g.S.Store c.args.keeper.now c.args.keeper.now _ refl
+    (tells_nothing c.args.keeper.now c.args.keeper.now _ refl
     (unread-no-store _ _ _ _ c.read_request.new.reader c.read_request.new.writer c.in_err-read_request.field-0.0 c.in_err-read_request.ensures.fault))
 
 pub returns-in-End-clause-tells : goal.returns-in-End-clause-tells
-returns-in-End-clause-tells g c = tells_nothing g.S.Store c.args.keeper.now c.args.keeper.now _ refl (ok-no-store _)
+returns-in-End-clause-tells g c = tells_nothing c.args.keeper.now c.args.keeper.now _ refl (ok-no-store _)
 
 pub returns-in-Cut-clause-tells : goal.returns-in-Cut-clause-tells
-returns-in-Cut-clause-tells g c = tells_nothing g.S.Store c.args.keeper.now c.args.keeper.now _ refl input-no-store
+returns-in-Cut-clause-tells g c = tells_nothing c.args.keeper.now c.args.keeper.now _ refl input-no-store
 
 pub returns-in_err-write_text-in-Refused-clause-tells : goal.returns-in_err-write_text-in-Refused-clause-tells
 returns-in_err-write_text-in-Refused-clause-tells g c =
     let p = err_from_is_err_and c.from_residual-in_err-write_text-in-Refused.result c.from_residual-in_err-write_text-in-Refused.ensures.1 in
-    rw (p.1, p.2, c.in_err-write_text-in-Refused.ensures.fault.0) (tells_nothing g.S.Store c.args.keeper.now c.args.keeper.now _ refl output-no-loss)
+    rw (p.1, p.2, c.in_err-write_text-in-Refused.ensures.fault.0) (tells_nothing c.args.keeper.now c.args.keeper.now _ refl output-no-loss)
 
 pub returns-in_ok-write_text-in-Refused-clause-tells : goal.returns-in_ok-write_text-in-Refused-clause-tells
-returns-in_ok-write_text-in-Refused-clause-tells g c = tells_nothing g.S.Store c.args.keeper.now c.args.keeper.now _ refl (ok-no-store _)
+returns-in_ok-write_text-in-Refused-clause-tells g c = tells_nothing c.args.keeper.now c.args.keeper.now _ refl (ok-no-store _)
 
 pub returns-in_err-reply_to-in-Request-clause-tells : goal.returns-in_err-reply_to-in-Request-clause-tells
 returns-in_err-reply_to-in-Request-clause-tells g c =
     let p = err_from_is_err_and c.from_residual-in_err-reply_to-in-Request.result c.from_residual-in_err-reply_to-in-Request.ensures.1 in
     rw (p.1, p.2)
-    (tells_as g.S.Store c.args.keeper.now c.reply_to.new.keeper _ _ (same-err c.in_err-reply_to-in-Request.field-0.0) c.in_err-reply_to-in-Request.ensures.tells)
+    (tells_as c.args.keeper.now c.reply_to.new.keeper _ _ (same-err c.in_err-reply_to-in-Request.field-0.0) c.in_err-reply_to-in-Request.ensures.tells)
 
 pub returns-in_ok-reply_to-in-Request-clause-tells : goal.returns-in_ok-reply_to-in-Request-clause-tells
 returns-in_ok-reply_to-in-Request-clause-tells g c =
-    tells_as g.S.Store c.args.keeper.now c.reply_to.new.keeper _ _ (λ e. absurd (ok-no-store _ e)) c.in_ok-reply_to-in-Request.ensures.tells
+    tells_as c.args.keeper.now c.reply_to.new.keeper _ _ (λ e. absurd (ok-no-store _ e)) c.in_ok-reply_to-in-Request.ensures.tells
 
 pub returns-in_err-read_request-clause-tries : goal.returns-in_err-read_request-clause-tries
 returns-in_err-read_request-clause-tries g c =

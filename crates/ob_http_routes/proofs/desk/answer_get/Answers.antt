@@ -13,16 +13,16 @@ returns-in-Command g c = rw c.in-Command.is c.show_command.ensures
 pub returns-in-Commands : goal.returns-in-Commands
 returns-in-Commands g c =
     rw c.in-Commands.is
-    (serves_plain g.S.Store c.args.keeper.now _ (empty (statuses.MethodNotAllowed allows.Post)) c.args.closes c.bare_reply.result c.bare_reply.ensures (λ b ties. (c.bare_reply.ensures, ties)))
+    (serves_plain c.args.keeper.now _ (empty (statuses.MethodNotAllowed allows.Post)) c.args.closes c.bare_reply.result c.bare_reply.ensures (λ b ties. (c.bare_reply.ensures, ties)))
 
 pub returns-in-Import : goal.returns-in-Import
 returns-in-Import g c =
     rw c.in-Import.is
-    (serves_plain g.S.Store c.args.keeper.now _ (empty (statuses.MethodNotAllowed allows.Post)) c.args.closes c.bare_reply-in-Import.result c.bare_reply-in-Import.ensures
+    (serves_plain c.args.keeper.now _ (empty (statuses.MethodNotAllowed allows.Post)) c.args.closes c.bare_reply-in-Import.result c.bare_reply-in-Import.ensures
     (λ b ties. (c.bare_reply-in-Import.ensures, ties)))
 
 pub returns-in-Plan : goal.returns-in-Plan
 returns-in-Plan g c =
     rw c.in-Plan.is
-    (serves_plain g.S.Store c.args.keeper.now _ (empty (statuses.MethodNotAllowed allows.Post)) c.args.closes c.bare_reply-in-Plan.result c.bare_reply-in-Plan.ensures
+    (serves_plain c.args.keeper.now _ (empty (statuses.MethodNotAllowed allows.Post)) c.args.closes c.bare_reply-in-Plan.result c.bare_reply-in-Plan.ensures
     (λ b ties. (c.bare_reply-in-Plan.ensures, ties)))

@@ -17,11 +17,11 @@ returns-in-Plan-clause-serves g c = rw c.in-Plan.is c.post_plan.ensures.serves
 pub returns-in-Command-clause-serves : goal.returns-in-Command-clause-serves
 returns-in-Command-clause-serves g c =
     rw c.in-Command.is
-    (serves_plain g.S.Store c.args.keeper.now _ (empty (statuses.MethodNotAllowed allows.Get)) c.args.closes c.bare_reply.result c.bare_reply.ensures
+    (serves_plain c.args.keeper.now _ (empty (statuses.MethodNotAllowed allows.Get)) c.args.closes c.bare_reply.result c.bare_reply.ensures
     (λ b ties. (empty (statuses.MethodNotAllowed allows.Get), b, (refl, refl), c.bare_reply.ensures, ties)))
 
 pub returns-in-View-clause-serves : goal.returns-in-View-clause-serves
 returns-in-View-clause-serves g c =
     rw c.in-View.is
-    (serves_plain g.S.Store c.args.keeper.now _ (empty (statuses.MethodNotAllowed allows.Get)) c.args.closes c.bare_reply-in-View.result c.bare_reply-in-View.ensures
+    (serves_plain c.args.keeper.now _ (empty (statuses.MethodNotAllowed allows.Get)) c.args.closes c.bare_reply-in-View.result c.bare_reply-in-View.ensures
     (λ b ties. (empty (statuses.MethodNotAllowed allows.Get), b, (refl, refl), c.bare_reply-in-View.ensures, ties)))

@@ -11,4 +11,4 @@ returns-clause-tells g c = c.import_rows.ensures.tells
 
 pub returns-then-is_none-clause-tells : goal.returns-then-is_none-clause-tells
 returns-then-is_none-clause-tells g c =
-    let k = c.args.keeper.now in tells_nothing g.S.Store k k _ refl (no_book_fault c.fault_without_book.result c.fault_without_book.ensures)
+    let k = c.args.keeper.now in tells_nothing k k _ refl (no_book_fault c.fault_without_book.result c.fault_without_book.ensures)

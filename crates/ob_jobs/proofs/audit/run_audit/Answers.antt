@@ -12,7 +12,7 @@ pub returns-in_err-found : goal.returns-in_err-found
 returns-in_err-found g c =
     let p = err_from_is_err_and c.from_residual.result c.from_residual.ensures.1 in
     rw (p.1, p.2)
-    (stopped_after (AuditOf g.S.Store c.args.keeper.now c.audit_tables.new.keeper)
+    (stopped_after (AuditOf c.args.keeper.now c.audit_tables.new.keeper)
     audit_line g.W.Write.contents c.args.writer.now c.args.writer.now c.in_err-found.field-0.0 c.in_err-found.ensures
     (Keeps-refl (watched_bytes g.W.Write.contents c.args.writer.now)))
 
@@ -25,5 +25,5 @@ pub returns-in_err-tell : goal.returns-in_err-tell
 returns-in_err-tell g c =
     let p = err_from_is_err_and c.from_residual-in_err-tell.result c.from_residual-in_err-tell.ensures.1 in
     rw (p.1, p.2)
-    (untold_after (AuditOf g.S.Store c.args.keeper.now c.audit_tables.new.keeper)
+    (untold_after (AuditOf c.args.keeper.now c.audit_tables.new.keeper)
     audit_line g.W.Write.contents c.args.writer.now c.tell.new.writer c.in_err-tell.field-0.0 c.in_ok-found.found c.in_ok-found.ensures (subst (λ t. Told g.W.Write.contents c.args.writer.now c.tell.new.writer t (Err c.in_err-tell.field-0.0)) (c.as_bytes.ensures.value ∙ c.in_ok-line.ensures) c.in_err-tell.ensures))

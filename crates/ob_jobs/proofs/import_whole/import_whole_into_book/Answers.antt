@@ -20,7 +20,7 @@ returns-in_default g c =
 pub returns-in-Ok : goal.returns-in-Ok
 returns-in-Ok g c =
     let contents = g.W.Write.contents in
-    let told = told_after (ImportsAs (WholeOf g.S.Store g.O.Input.Read.remaining c.load_with_progress.new.self c.import_whole.new.keeper c.new-reader.result c.import_whole.new.reader))
+    let told = told_after (ImportsAs (WholeOf g.O.Input.Read.remaining c.load_with_progress.new.self c.import_whole.new.keeper c.new-reader.result c.import_whole.new.reader))
     import_line contents c.args.writer.now c.tell_report.new.writer c.in-Ok.report c.in-Ok.ensures c.tell_report.result c.tell_report.ensures in (
       c.tell_report.result,
       c.end_of_import.ensures,
@@ -39,7 +39,7 @@ pub returns : goal.returns
 returns g c =
     let contents = g.W.Write.contents in
     let failed = c.in-Err.failed in
-    let stopped = stopped_after (ImportsAs (WholeOf g.S.Store g.O.Input.Read.remaining c.load_with_progress.new.self c.import_whole.new.keeper c.new-reader.result c.import_whole.new.reader))
+    let stopped = stopped_after (ImportsAs (WholeOf g.O.Input.Read.remaining c.load_with_progress.new.self c.import_whole.new.keeper c.new-reader.result c.import_whole.new.reader))
     import_line contents c.args.writer.now c.args.writer.now (Fault failed.fault) (failed.added, failed.again, c.in-Err.ensures) (Keeps-refl (watched_bytes contents c.args.writer.now)) in (
       Err (Fault failed.fault),
       ap Err c.from-in-Err.ensures,

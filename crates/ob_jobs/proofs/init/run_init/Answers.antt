@@ -15,13 +15,13 @@ returns-in_err-make_tables g c =
     let old = c.args.keeper.now in
     let new = c.make_tables.new.keeper in
     rw (p.1, p.2)
-    (stopped (MakingOf g.S.Store old new c.args.first.now c.args.days c.args.zone.now)
+    (stopped (MakingOf old new c.args.first.now c.args.days c.args.zone.now)
     (λ _. created_line) g.W.Write.contents c.args.writer.now c.args.writer.now stop c.in_err-make_tables.ensures
-    (making_other g.S.Store old new c.args.first.now c.args.days c.args.zone.now stop c.in_err-make_tables.ensures)
+    (making_other old new c.args.first.now c.args.days c.args.zone.now stop c.in_err-make_tables.ensures)
     (Keeps-refl (watched_bytes g.W.Write.contents c.args.writer.now)))
 
 pub returns : goal.returns
 returns g c =
-    ended (MakingOf g.S.Store c.args.keeper.now c.make_tables.new.keeper c.args.first.now c.args.days c.args.zone.now)
+    ended (MakingOf c.args.keeper.now c.make_tables.new.keeper c.args.first.now c.args.days c.args.zone.now)
     created_line g.W.Write.contents c.args.writer.now c.tell.new.writer c.tell.result c.in_ok-make_tables.ensures
     (subst (λ t. Told g.W.Write.contents c.args.writer.now c.tell.new.writer t c.tell.result) c.as_slice.ensures c.tell.ensures)

@@ -13,7 +13,7 @@ returns-in_err-migrated g c =
     let p = err_from_is_err_and c.from_residual.result c.from_residual.ensures.1 in
     let stop = c.in_err-migrated.field-0.0 in
     rw (p.1, p.2)
-    (stopped (MigrationOf g.S.Store c.args.keeper.now c.migrate_tables.new.keeper)
+    (stopped (MigrationOf c.args.keeper.now c.migrate_tables.new.keeper)
     migrate_line g.W.Write.contents c.args.writer.now c.args.writer.now stop c.in_err-migrated.ensures
     (other_than_output stop c.in_err-migrated.ensures.stops) (Keeps-refl (watched_bytes g.W.Write.contents c.args.writer.now)))
 
@@ -21,5 +21,5 @@ pub returns-in_err-tell : goal.returns-in_err-tell
 returns-in_err-tell g c =
     let p = err_from_is_err_and c.from_residual-in_err-tell.result c.from_residual-in_err-tell.ensures.1 in
     rw (p.1, p.2)
-    (untold (MigrationOf g.S.Store c.args.keeper.now c.migrate_tables.new.keeper)
+    (untold (MigrationOf c.args.keeper.now c.migrate_tables.new.keeper)
     migrate_line g.W.Write.contents c.args.writer.now c.tell.new.writer c.in_err-tell.field-0.0 c.in_ok-migrated.migrated c.in_ok-migrated.ensures (subst (λ t. Told g.W.Write.contents c.args.writer.now c.tell.new.writer t (Err c.in_err-tell.field-0.0)) (c.line_of.ensures) c.in_err-tell.ensures))

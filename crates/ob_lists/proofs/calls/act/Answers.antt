@@ -11,22 +11,22 @@ returns-clause-goes g c =
     let a = under c.args.reference c.args.command in
     record {
       clean = c.act.ensures.clean;
-      stands = λ clean b before stands. act_stands g.S.Store old new b before a c.act.result (c.act.ensures.reopen.0) c.act.ensures.unopened
+      stands = λ clean b before stands. act_stands old new b before a c.act.result (c.act.ensures.reopen.0) c.act.ensures.unopened
           (λ x ties some. c.act.ensures.acted clean x ties some) stands;
     }
 
 pub returns-clause-answers : goal.returns-clause-answers
 returns-clause-answers g c =
-    λ clean b told stands. of_one g.S.Store c.args.keeper.now c.act.new.self (MayBe b told) c.act.result c.act.ensures.reopen.0
+    λ clean b told stands. of_one c.args.keeper.now c.act.new.self (MayBe b told) c.act.result c.act.ensures.reopen.0
     (λ x ties some. c.act.ensures.acted clean x ties some) stands
 
 pub returns-clause-cause : goal.returns-clause-cause
 returns-clause-cause g c =
     λ clean b told stands numbers.
-    acts_for_cause g.S.Store c.args.keeper.now c.act.new.self (MayBe b told) (under c.args.reference c.args.command) c.act.result (c.act.ensures.reopen.0)
-    (λ x ties some. c.act.ensures.cause clean x ties numbers some) stands
+    acts_for_cause c.args.keeper.now c.act.new.self (MayBe b told) (under c.args.reference c.args.command) c.act.result (c.act.ensures.reopen.0)
+    (λ x ties some. c.act.ensures.cause clean x ties some numbers) stands
 
 pub returns-clause-numbered : goal.returns-clause-numbered
 returns-clause-numbered g c =
     λ b told stands numbers.
-    numbers_act g.S.Store c.args.keeper.now c.act.new.self (MayBe b told) c.act.ensures.unopened (λ x ties. c.act.ensures.numbered x ties numbers) stands numbers
+    numbers_act c.args.keeper.now c.act.new.self (MayBe b told) c.act.ensures.unopened (λ x ties. c.act.ensures.numbered x ties numbers) stands numbers

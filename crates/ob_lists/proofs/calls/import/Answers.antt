@@ -12,8 +12,8 @@ returns-clause-goes g c =
     let i = c.import.ensures in
     record {
       clean = i.clean;
-      stands = λ clean b before stands. import_stands g.S.Store old new b before (option_map rows_of (watched_bytes g.R.Read.remaining c.args.reader.now)) c.import.result i.reopen.0 i.unopened (i.imported clean) stands;
+      stands = λ clean b before stands. import_stands old new b before (option_map rows_of (watched_bytes g.R.Read.remaining c.args.reader.now)) c.import.result i.reopen.0 i.unopened (i.imported clean) stands;
     }
 
 pub returns-clause-tells : goal.returns-clause-tells
-returns-clause-tells g c = tells_over g.S.Store c.args.keeper.now c.import.new.keeper _ c.import.ensures.unopened c.import.ensures.tells
+returns-clause-tells g c = tells_over c.args.keeper.now c.import.new.keeper _ c.import.ensures.unopened c.import.ensures.tells

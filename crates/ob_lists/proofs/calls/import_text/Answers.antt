@@ -11,8 +11,8 @@ returns-clause-goes g c =
     let i = c.import_text.ensures in
     record {
       clean = i.clean;
-      stands = λ clean b before stands. import_stands g.S.Store old new b before (Some (rows_of c.args.text.now)) c.import_text.result i.reopen.0 i.unopened (i.imported clean) stands;
+      stands = λ clean b before stands. import_stands old new b before (Some (rows_of c.args.text.now)) c.import_text.result i.reopen.0 i.unopened (i.imported clean) stands;
     }
 
 pub returns-clause-tells : goal.returns-clause-tells
-returns-clause-tells g c = tells_over g.S.Store c.args.keeper.now c.import_text.new.keeper _ c.import_text.ensures.unopened c.import_text.ensures.tells
+returns-clause-tells g c = tells_over c.args.keeper.now c.import_text.new.keeper _ c.import_text.ensures.unopened c.import_text.ensures.tells

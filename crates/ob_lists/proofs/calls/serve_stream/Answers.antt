@@ -14,9 +14,9 @@ returns-clause-goes g c =
     let has = watched_bytes g.W.Write.contents c.serve_stream.new.writer in
     record {
       clean = s.clean;
-      stands = λ clean b before stands. stream_stands g.S.Store old new b before c.answers_law.ensures.bookless bytes had has s.unopened clean
+      stands = λ clean b before stands. stream_stands old new b before c.answers_law.ensures.bookless bytes had has s.unopened clean
           c.serve_stream.new.reader c.serve_stream.new.writer left c.serve_stream.result s.serves s.fails stands;
     }
 
 pub returns-clause-tells : goal.returns-clause-tells
-returns-clause-tells g c = tells_over g.S.Store c.args.keeper.now c.serve_stream.new.keeper _ c.serve_stream.ensures.unopened c.serve_stream.ensures.tells
+returns-clause-tells g c = tells_over c.args.keeper.now c.serve_stream.new.keeper _ c.serve_stream.ensures.unopened c.serve_stream.ensures.tells

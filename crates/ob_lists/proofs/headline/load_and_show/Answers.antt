@@ -4,21 +4,27 @@ use Rattle.ob_lists.proofs.headline.load_and_show.Goals as goal
 
 pub returns-in-Ok-clause-shows : goal.returns-in-Ok-clause-shows
 returns-in-Ok-clause-shows g c =
-    λ clean b told stands. loaded_shows g.S.Store c.next_law.ensures.period c.told_law.ensures.commands b told c.load.new.keeper c.args.dim c.args.key
+    λ clean b told stands. loaded_shows c.next_law.ensures.period c.told_law.ensures.commands b told c.load.new.keeper c.args.dim c.args.key
     c.args.which c.shown.result c.shown.ensures.headline c.shown.ensures.none c.shown.ensures.err c.args.keeper.now tt (c.in-Ok.ensures.loads clean b told stands)
 
 pub returns-in-Ok-clause-after : goal.returns-in-Ok-clause-after
 returns-in-Ok-clause-after g c =
     λ clean b told first begun goes. returns-in-Ok-clause-shows g c clean b told
-    (goes_from g.S.Store g.R.Store b told first c.args.keeper.now begun goes (c.in-Ok.ensures.goes.clean clean))
+    (goes_from b told first c.args.keeper.now begun goes (c.in-Ok.ensures.goes.clean clean))
 
 pub returns-in-Err-clause-shows : goal.returns-in-Err-clause-shows
+<<<<<<< HEAD
 returns-in-Err-clause-shows g c = λ clean b told stands. c.in-Err.ensures.loads clean b told stands
+=======
+returns-in-Err-clause-shows g c =
+    λ clean b told stands. stopped_shows c.next_law.ensures.period c.told_law.ensures.commands b told c.load.new.keeper c.args.dim c.args.key
+    c.args.which c.args.keeper.now c.in-Err.stop (c.in-Err.ensures.loads clean b told stands)
+>>>>>>> b4b8cd67 (Above the storage layer no contract names the store, its tree or its schema (crates above ob_store are not checked yet))
 
 pub returns-in-Err-clause-after : goal.returns-in-Err-clause-after
 returns-in-Err-clause-after g c =
     λ clean b told first begun goes. returns-in-Err-clause-shows g c clean b told
-    (goes_from g.S.Store g.R.Store b told first c.args.keeper.now begun goes (c.in-Err.ensures.goes.clean clean))
+    (goes_from b told first c.args.keeper.now begun goes (c.in-Err.ensures.goes.clean clean))
 
 pub returns-in-Ok-clause-goes : goal.returns-in-Ok-clause-goes
 returns-in-Ok-clause-goes g c = c.in-Ok.ensures.goes

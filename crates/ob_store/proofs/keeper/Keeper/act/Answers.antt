@@ -32,73 +32,73 @@ module _ (g : given.Over) (k : KeeperValue g.row.S.Denot) (conn : Held g.row.S.D
 
 pub returns-in-Ok-clause-numbered : goal.returns-in-Ok-clause-numbered
 returns-in-Ok-clause-numbered g c b ties numbers =
-    let k = c.args.self.now in
-    let conn = c.self.inside.conn in
-    let conn_is : conn ≡ k.conn = ap (λ (x : KeeperValue g.row.S.Denot). x.conn) c.self.view_is in
-    let book_is : option_map (λ (x : BookValue). x.state) c.self.inside.book ≡ k.book = ap (λ (x : KeeperValue g.row.S.Denot). x.book) c.self.view_is in
-    c.act_on.ensures.numbered b (keeps_in g k conn conn_is b ties) (same_in g k conn conn_is b c.self.inside.book c.in-Some.book book_is c.in-Some.is ties) (numbers_in g k conn conn_is b numbers)
+    let k = c.args.self.now.parts in
+    let conn = c.parts.inside.conn in
+    let conn_is : conn ≡ k.conn = ap (λ (x : KeeperValue g.row.S.Denot). x.conn) c.parts.view_is in
+    let book_is : option_map (λ (x : BookValue). x.state) c.parts.inside.book ≡ k.book = ap (λ (x : KeeperValue g.row.S.Denot). x.book) c.parts.view_is in
+    c.act_on.ensures.numbered b (keeps_in g k conn conn_is b ties) (same_in g k conn conn_is b c.parts.inside.book c.in-Some.book book_is c.in-Some.is ties) (numbers_in g k conn conn_is b numbers)
 
 pub returns-in-Err-clause-numbered : goal.returns-in-Err-clause-numbered
 returns-in-Err-clause-numbered g c b ties numbers =
-    let k = c.args.self.now in
-    let conn = c.self.inside.conn in
-    let conn_is : conn ≡ k.conn = ap (λ (x : KeeperValue g.row.S.Denot). x.conn) c.self.view_is in
-    let book_is : option_map (λ (x : BookValue). x.state) c.self.inside.book ≡ k.book = ap (λ (x : KeeperValue g.row.S.Denot). x.book) c.self.view_is in
-    c.act_on.ensures.numbered b (keeps_in g k conn conn_is b ties) (same_in g k conn conn_is b c.self.inside.book c.in-Some.book book_is c.in-Some.is ties) (numbers_in g k conn conn_is b numbers)
+    let k = c.args.self.now.parts in
+    let conn = c.parts.inside.conn in
+    let conn_is : conn ≡ k.conn = ap (λ (x : KeeperValue g.row.S.Denot). x.conn) c.parts.view_is in
+    let book_is : option_map (λ (x : BookValue). x.state) c.parts.inside.book ≡ k.book = ap (λ (x : KeeperValue g.row.S.Denot). x.book) c.parts.view_is in
+    c.act_on.ensures.numbered b (keeps_in g k conn conn_is b ties) (same_in g k conn conn_is b c.parts.inside.book c.in-Some.book book_is c.in-Some.is ties) (numbers_in g k conn conn_is b numbers)
 
 pub returns-in-Err-clause-cause : goal.returns-in-Err-clause-cause
-returns-in-Err-clause-cause g c clean b ties numbers some store =
-    let k = c.args.self.now in
-    let conn = c.self.inside.conn in
-    let conn_is : conn ≡ k.conn = ap (λ (x : KeeperValue g.row.S.Denot). x.conn) c.self.view_is in
-    let book_is : option_map (λ (x : BookValue). x.state) c.self.inside.book ≡ k.book = ap (λ (x : KeeperValue g.row.S.Denot). x.book) c.self.view_is in
-    let cause = c.in-Err.ensures.cause clean b (keeps_in g k conn conn_is b ties) (numbers_in g k conn conn_is b numbers) (same_in g k conn conn_is b c.self.inside.book c.in-Some.book book_is c.in-Some.is ties) in
+returns-in-Err-clause-cause g c clean b ties some numbers store =
+    let k = c.args.self.now.parts in
+    let conn = c.parts.inside.conn in
+    let conn_is : conn ≡ k.conn = ap (λ (x : KeeperValue g.row.S.Denot). x.conn) c.parts.view_is in
+    let book_is : option_map (λ (x : BookValue). x.state) c.parts.inside.book ≡ k.book = ap (λ (x : KeeperValue g.row.S.Denot). x.book) c.parts.view_is in
+    let cause = c.in-Err.ensures.cause clean b (keeps_in g k conn conn_is b ties) (numbers_in g k conn conn_is b numbers) (same_in g k conn conn_is b c.parts.inside.book c.in-Some.book book_is c.in-Some.is ties) in
     subst (λ (h : Held g.row.S.Denot). HasActCause g.S.Store {X = ⊤} h c.act_on.new.conn b (under c.args.reference c.args.command) (Err c.in-Err.stop)) conn_is cause store
 
 pub returns-in-Ok-clause-survives : goal.returns-in-Ok-clause-survives
-returns-in-Ok-clause-survives g c = survives_from g c.args.self.now c.self.inside.conn c.act_on.new.conn (ap (λ (x : KeeperValue g.row.S.Denot). x.conn) c.self.view_is) c.act_on.ensures.survives
+returns-in-Ok-clause-survives g c = survives_from g c.args.self.now.parts c.parts.inside.conn c.act_on.new.conn (ap (λ (x : KeeperValue g.row.S.Denot). x.conn) c.parts.view_is) c.act_on.ensures.survives
 
 pub returns-in-Err-clause-survives : goal.returns-in-Err-clause-survives
-returns-in-Err-clause-survives g c = survives_from g c.args.self.now c.self.inside.conn c.act_on.new.conn (ap (λ (x : KeeperValue g.row.S.Denot). x.conn) c.self.view_is) c.act_on.ensures.survives
+returns-in-Err-clause-survives g c = survives_from g c.args.self.now.parts c.parts.inside.conn c.act_on.new.conn (ap (λ (x : KeeperValue g.row.S.Denot). x.conn) c.parts.view_is) c.act_on.ensures.survives
 
 pub returns-in-Ok-clause-searches : goal.returns-in-Ok-clause-searches
 returns-in-Ok-clause-searches g c s is =
-    let k = c.args.self.now in
-    let book_is : option_map (λ (x : BookValue). x.state) c.self.inside.book ≡ k.book = ap (λ (x : KeeperValue g.row.S.Denot). x.book) c.self.view_is in
-    let searches_is : option_map_or (λ (x : BookValue). x.searches) c.self.inside.book 0 ≡ k.searches = ap (λ (x : KeeperValue g.row.S.Denot). x.searches) c.self.view_is in
-    let before = searches_of_some c.self.inside.book c.in-Some.book c.in-Some.is k.searches searches_is in
+    let k = c.args.self.now.parts in
+    let book_is : option_map (λ (x : BookValue). x.state) c.parts.inside.book ≡ k.book = ap (λ (x : KeeperValue g.row.S.Denot). x.book) c.parts.view_is in
+    let searches_is : option_map_or (λ (x : BookValue). x.searches) c.parts.inside.book 0 ≡ k.searches = ap (λ (x : KeeperValue g.row.S.Denot). x.searches) c.parts.view_is in
+    let before = searches_of_some c.parts.inside.book c.in-Some.book c.in-Some.is k.searches searches_is in
     let most = searched_over g.T.Timeline.bound c.in-Some.book.state s c.args.command k.searches c.in-Some.book.searches c.act_on.new.book.searches
-    (state_of_some c.self.inside.book c.in-Some.book c.in-Some.is k.book s book_is is) before c.act_on.ensures.searches in
+    (state_of_some c.parts.inside.book c.in-Some.book c.in-Some.is k.book s book_is is) before c.act_on.ensures.searches in
     most
 
 pub returns-in-Ok-clause-searched : goal.returns-in-Ok-clause-searched
 returns-in-Ok-clause-searched g c clean b ties some =
-    let k = c.args.self.now in
-    let conn = c.self.inside.conn in
-    let conn_is : conn ≡ k.conn = ap (λ (x : KeeperValue g.row.S.Denot). x.conn) c.self.view_is in
-    let book_is : option_map (λ (x : BookValue). x.state) c.self.inside.book ≡ k.book = ap (λ (x : KeeperValue g.row.S.Denot). x.book) c.self.view_is in
-    let searches_is : option_map_or (λ (x : BookValue). x.searches) c.self.inside.book 0 ≡ k.searches = ap (λ (x : KeeperValue g.row.S.Denot). x.searches) c.self.view_is in
-    let before = searches_of_some c.self.inside.book c.in-Some.book c.in-Some.is k.searches searches_is in
-    let few = c.act_on.ensures.searched clean b (keeps_in g k conn conn_is b ties) (same_in g k conn conn_is b c.self.inside.book c.in-Some.book book_is c.in-Some.is ties) in
+    let k = c.args.self.now.parts in
+    let conn = c.parts.inside.conn in
+    let conn_is : conn ≡ k.conn = ap (λ (x : KeeperValue g.row.S.Denot). x.conn) c.parts.view_is in
+    let book_is : option_map (λ (x : BookValue). x.state) c.parts.inside.book ≡ k.book = ap (λ (x : KeeperValue g.row.S.Denot). x.book) c.parts.view_is in
+    let searches_is : option_map_or (λ (x : BookValue). x.searches) c.parts.inside.book 0 ≡ k.searches = ap (λ (x : KeeperValue g.row.S.Denot). x.searches) c.parts.view_is in
+    let before = searches_of_some c.parts.inside.book c.in-Some.book c.in-Some.is k.searches searches_is in
+    let few = c.act_on.ensures.searched clean b (keeps_in g k conn conn_is b ties) (same_in g k conn conn_is b c.parts.inside.book c.in-Some.book book_is c.in-Some.is ties) in
     omega (arith, before, few)
 
 pub returns-in-Err-clause-searches : goal.returns-in-Err-clause-searches
 returns-in-Err-clause-searches g c s is =
-    let k = c.args.self.now in
-    let book_is : option_map (λ (x : BookValue). x.state) c.self.inside.book ≡ k.book = ap (λ (x : KeeperValue g.row.S.Denot). x.book) c.self.view_is in
-    let searches_is : option_map_or (λ (x : BookValue). x.searches) c.self.inside.book 0 ≡ k.searches = ap (λ (x : KeeperValue g.row.S.Denot). x.searches) c.self.view_is in
-    let before = searches_of_some c.self.inside.book c.in-Some.book c.in-Some.is k.searches searches_is in
+    let k = c.args.self.now.parts in
+    let book_is : option_map (λ (x : BookValue). x.state) c.parts.inside.book ≡ k.book = ap (λ (x : KeeperValue g.row.S.Denot). x.book) c.parts.view_is in
+    let searches_is : option_map_or (λ (x : BookValue). x.searches) c.parts.inside.book 0 ≡ k.searches = ap (λ (x : KeeperValue g.row.S.Denot). x.searches) c.parts.view_is in
+    let before = searches_of_some c.parts.inside.book c.in-Some.book c.in-Some.is k.searches searches_is in
     let most = searched_over g.T.Timeline.bound c.in-Some.book.state s c.args.command k.searches c.in-Some.book.searches c.act_on.new.book.searches
-    (state_of_some c.self.inside.book c.in-Some.book c.in-Some.is k.book s book_is is) before c.act_on.ensures.searches in
+    (state_of_some c.parts.inside.book c.in-Some.book c.in-Some.is k.book s book_is is) before c.act_on.ensures.searches in
     omega (arith, most, c.settle.ensures.searches)
 
 pub returns-in-Err-clause-searched : goal.returns-in-Err-clause-searched
 returns-in-Err-clause-searched g c clean b ties some =
-    let k = c.args.self.now in
-    let conn = c.self.inside.conn in
-    let conn_is : conn ≡ k.conn = ap (λ (x : KeeperValue g.row.S.Denot). x.conn) c.self.view_is in
-    let book_is : option_map (λ (x : BookValue). x.state) c.self.inside.book ≡ k.book = ap (λ (x : KeeperValue g.row.S.Denot). x.book) c.self.view_is in
-    let searches_is : option_map_or (λ (x : BookValue). x.searches) c.self.inside.book 0 ≡ k.searches = ap (λ (x : KeeperValue g.row.S.Denot). x.searches) c.self.view_is in
-    let before = searches_of_some c.self.inside.book c.in-Some.book c.in-Some.is k.searches searches_is in
-    let few = c.act_on.ensures.searched clean b (keeps_in g k conn conn_is b ties) (same_in g k conn conn_is b c.self.inside.book c.in-Some.book book_is c.in-Some.is ties) in
+    let k = c.args.self.now.parts in
+    let conn = c.parts.inside.conn in
+    let conn_is : conn ≡ k.conn = ap (λ (x : KeeperValue g.row.S.Denot). x.conn) c.parts.view_is in
+    let book_is : option_map (λ (x : BookValue). x.state) c.parts.inside.book ≡ k.book = ap (λ (x : KeeperValue g.row.S.Denot). x.book) c.parts.view_is in
+    let searches_is : option_map_or (λ (x : BookValue). x.searches) c.parts.inside.book 0 ≡ k.searches = ap (λ (x : KeeperValue g.row.S.Denot). x.searches) c.parts.view_is in
+    let before = searches_of_some c.parts.inside.book c.in-Some.book c.in-Some.is k.searches searches_is in
+    let few = c.act_on.ensures.searched clean b (keeps_in g k conn conn_is b ties) (same_in g k conn conn_is b c.parts.inside.book c.in-Some.book book_is c.in-Some.is ties) in
     omega (arith, before, few, c.settle.ensures.searches)
