@@ -1,5 +1,5 @@
 -- What a transaction over the tables of a book leaves of the store, committed or not.
-use Rattle.std.proofs.Common.{◌≡◌, ◌⊎◌, ◌+◌, ℕ, List, [], length, Option, Some, Ok, IsTrue, true, false, inl, inr, refl, sym, ap, subst, arith}
+use Rattle.std.proofs.Common.{◌≡◌, ◌⊎◌, ◌∙◌, ◌+◌, ℕ, List, [], length, Option, Some, Ok, Err, IsTrue, true, false, inl, inr, refl, sym, ap, subst, arith}
 use Rattle.std.specs.Prelude.{IfSome, IsSome}
 use Rattle.sqlite_trees.specs.declared.store.Store.{Ghosts}
 use Rattle.sqlite.specs.Held.{Held, state}
@@ -9,9 +9,11 @@ use Rattle.sqlite.specs.Tree.{Trees}
 use Rattle.sqlite.specs.declared.error.Error.{Error}
 use Rattle.ob_base.specs.declared.stop.Stop.{Stop}
 use Rattle.ob_base.specs.declared.stop.Stop.TheVariants.{Refused, Fault}
+use Rattle.ob_base.specs.declared.stop.Fault.{Fault as AFault}
 use Rattle.ob_base.specs.declared.stop.Fault.TheVariants.{OutOfMemory, Store, Reopen, Input, Output}
 use Rattle.ob_state.specs.State.{BookState}
 use Rattle.ob_book.specs.Acts.{ActState}
+use Rattle.ob_book.specs.Searches.{Bound}
 use Rattle.sqlite_catalog.specs.Listing.{IsSound}
 use Rattle.ob_sql_rows.specs.Rows.{Holds}
 use Rattle.ob_sql_rows.specs.Schema.{book_schema}
@@ -21,6 +23,7 @@ use Rattle.ob_sql_write.proofs.Commits.{committed, failed, failed_cause, numbere
 use Rattle.ob_record.specs.Tables.{tables_of}
 use Rattle.ob_store.specs.Acting.{IsActStop}
 use Rattle.ob_store.specs.Keeping.{KeeperValue, KeepsBook, Ties}
+use Rattle.ob_store.specs.Lines.{CommitsList}
 use Rattle.ob_store.specs.Whole.{ActedAll, ActsAll, CommitsOf, EndsAt, Halts, IsWhole, KeepsFirstOrLast, LeadTo, LeavesLast, LedBy, Line, ShowsBook, after_lines}
 
 -- the transaction that has begun
@@ -49,6 +52,28 @@ survives_same s P = record { clean = omega arith; shield = λ x. x; counts = ome
 
 pub acts_none : {S : Type 0} (g : Ghosts S) (conn : Held S) (is : BookState) (b : ActState) (list : List Line) → list ≡ [] → KeepsBook (state g conn) b → is ≡ b.book → ActsAll g conn is b list (Ok 0)
 acts_none g conn is b list none keeps same = (b, ap (after_lines b 0) none, (let e : length b.accepted + 0 ≡ length b.accepted = omega arith in e), keeps, same)
+
+-- memory was refused before there was a line
+starved_end : (s : State) (b : ActState) (list : List Line) (place : ℕ) (fault : AFault) → fault ≡ OutOfMemory → KeepsBook s b → EndsAt s b list place (Fault fault)
+starved_end s b list place OutOfMemory memory keeps = keeps
+starved_end s b list place Store memory keeps = inl keeps
+starved_end s b list place Reopen memory keeps = absurd (let e : ◌≡◌ {A = AFault} Reopen OutOfMemory = memory in cc)
+starved_end s b list place Input memory keeps = absurd (let e : ◌≡◌ {A = AFault} Input OutOfMemory = memory in cc)
+starved_end s b list place Output memory keeps = absurd (let e : ◌≡◌ {A = AFault} Output OutOfMemory = memory in cc)
+
+pub not_store : (fault : AFault) → fault ≡ OutOfMemory → Fault fault ≡ Fault Store → ⊥
+not_store fault memory store = let e : ◌≡◌ {A = Stop} (Fault OutOfMemory) (Fault Store) = sym (ap (λ f. Fault f) memory) ∙ store in cc
+
+pub starved_none : {S : Type 0} (g : Ghosts S) (bound : Bound) (conn : Held S) (is : BookState) (n : ℕ) (list : List Line) (fault : AFault) → fault ≡ OutOfMemory
+    → CommitsList g bound conn conn is is n n list (Err (record { place = 0; stop = Fault fault }))
+starved_none g bound conn is n list fault memory = record {
+  few = tt;
+  within = omega arith;
+  acts = λ clean b keeps same. starved_end (state g conn) b list 0 fault memory keeps;
+  cause = λ clean b keeps numbers same store. absurd (not_store fault memory store);
+  survives = survives_same (state g conn) (LeavesLast (state g conn) is list);
+  searched = λ clean b keeps same. tt;
+}
 
 -- ---- the transaction was dropped
 -- the store keeps what it kept

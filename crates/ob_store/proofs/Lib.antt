@@ -31,6 +31,7 @@ pub mod OldCrashing
 pub mod KeeperLaws
 pub mod Restarting
 pub mod Within
+pub mod Giving
 pub mod Committing
 pub mod Faults
 pub mod Searching

@@ -1,5 +1,5 @@
 -- One line after another inside a transaction: what each makes of the tables of a book, and where the store fails.
-use Rattle.std.proofs.Common.{◌≡◌, ◌∙◌, ◌+◌, ◌<◌, ◌≤◌, ℕ, Bool, true, false, zero, suc, List, [], ◌∷◌, length, drop, get_or, None, Some, Result, Ok, Err, IsTrue, inl, inr, refl, sym, ap, subst, arith, length-append}
+use Rattle.std.proofs.Common.{◌≡◌, ◌∙◌, ◌+◌, ◌≤◌, ℕ, Bool, true, false, List, [], ◌∷◌, ◌++◌, length, None, Some, Result, Ok, Err, IsTrue, inl, inr, refl, sym, ap, subst, arith, length-append}
 use Rattle.std.specs.Prelude.{OnOk, if◌then◌else◌}
 use Rattle.std.specs.List.{AllByRecursion}
 use Rattle.std.specs.Result.{is_ok}
@@ -25,7 +25,7 @@ use Rattle.ob_record.specs.Reached.{AcceptedIsReached, IsReached}
 use Rattle.ob_record.specs.Tables.{tables_of}
 use Rattle.ob_book.specs.Searches.{Bound}
 use Rattle.ob_store.specs.Searching.{searches_of_line, searches_of_lines}
-use Rattle.ob_store.specs.Whole.{Halts, InTurn, IsWhole, LeadsTables, Line, ShowsBook, Steps, Tries, after_line, after_lines, answer_to, goes_on}
+use Rattle.ob_store.specs.Whole.{Halts, IsWhole, LeadTo, LeadsTables, LedBy, Line, ShowsBook, Steps, StopAt, Tries, after_line, after_lines, answer_to, goes_on}
 use Rattle.ob_store.proofs.Accepting.{holds_as, valid_more}
 
 -- ---- the tables of one book after those of another
@@ -171,48 +171,48 @@ by_open old new (Err stop) told = λ store. elim (cases_Bool old.is_open) [
 ]
 
 -- ---- the lines of a list
-drop_suc : {X : Type 0} (xs : List X) (n : ℕ) (d : X) → n < length xs → drop n xs ≡ get_or xs n d ∷ drop (suc n) xs
-drop_suc [] n d low = absurd (omega (arith, low))
-drop_suc (x ∷ xs) zero d low = refl
-drop_suc (x ∷ xs) (suc n) d low = drop_suc xs n d (omega (arith, low))
-
-drop_next : {X : Type 0} (xs : List X) (n : ℕ) (d : X) → n < length xs → drop n xs ≡ get_or xs n d ∷ drop (n + 1) xs
-drop_next xs n d low = let e : suc n ≡ n + 1 = omega arith in drop_suc xs n d low ∙ ap (λ k. get_or xs n d ∷ drop k xs) e
-
 goes_past : (r : Result Reply Refusal) (place : ℕ) (rest : Result ActState (ℕ × Refusal)) → is_ok r ≡ true → goes_on r place rest ≡ rest
 goes_past (Ok reply) place rest ok = refl
 goes_past (Err refused) place rest ok = absurd (let e : false ≡ true = ok in cc)
 
+-- lines that were answered, and others behind them
+after_more : (first book : ActState) (place : ℕ) (done rest : List Line) → after_lines first place done ≡ Ok book → after_lines first place (done ++ rest) ≡ after_lines book (place + length done) rest
+after_more first book place [] rest lead =
+    let same : first ≡ book = (let e : ◌≡◌ {A = Result ActState (ℕ × Refusal)} (Ok first) (Ok book) = lead in cc) in
+    let none : place ≡ place + 0 = omega arith in
+    subst (λ c. after_lines first place rest ≡ after_lines c (place + 0) rest) same (ap (λ n. after_lines first n rest) none)
+after_more first book place (line ∷ done) rest lead =
+    elim (answer_to first line) as (λ r. goes_on r place (after_lines (after_line first line) (place + 1) done) ≡ Ok book
+    → goes_on r place (after_lines (after_line first line) (place + 1) (done ++ rest)) ≡ after_lines book (place + length (line ∷ done)) rest) [
+      | Ok reply ↦ λ it.
+          let at : place + 1 + length done ≡ place + length (line ∷ done) = omega arith in
+          after_more (after_line first line) book (place + 1) done rest it ∙ ap (λ n. after_lines book n rest) at
+      | Err refused ↦ λ it. absurd (let e : ◌≡◌ {A = Result ActState (ℕ × Refusal)} (Err (place, refused)) (Ok book) = it in cc)
+    ] lead
+
 -- one line more was answered
-pub left_next : (first book : ActState) (list : List Line) (place : ℕ) (d : Line) → place < length list → after_lines first 0 list ≡ after_lines book place (drop place list) → is_ok (answer_to book (get_or list place d)) ≡ true
-    → after_lines first 0 list ≡ after_lines (after_line book (get_or list place d)) (place + 1) (drop (place + 1) list)
-left_next first book list place d low left ok =
-    let line = get_or list place d in
-    left ∙ ap (after_lines book place) (drop_next list place d low)
-    ∙ goes_past (answer_to book line) place (after_lines (after_line book line) (place + 1) (drop (place + 1) list)) ok
+led_more : (first book : ActState) (done : List Line) (line : Line) → LeadTo done first book → is_ok (answer_to book line) ≡ true → LeadTo (done ++ line ∷ []) first (after_line book line)
+led_more first book done line lead ok =
+    after_more first book 0 done (line ∷ []) lead ∙ goes_past (answer_to book line) (0 + length done) (after_lines (after_line book line) (0 + length done + 1) []) ok
 
 -- or refused
-pub left_stops : (first book : ActState) (list : List Line) (place : ℕ) (d : Line) (refused : Refusal) → place < length list → after_lines first 0 list ≡ after_lines book place (drop place list)
-    → answer_to book (get_or list place d) ≡ Err refused → after_lines first 0 list ≡ Err (place, refused)
-left_stops first book list place d refused low left is =
-    let line = get_or list place d in
-    left ∙ ap (after_lines book place) (drop_next list place d low)
-    ∙ ap (λ r. goes_on r place (after_lines (after_line book line) (place + 1) (drop (place + 1) list))) is
+led_stops : (first book : ActState) (done : List Line) (line : Line) (rest : List Line) (refused : Refusal) → LeadTo done first book → answer_to book line ≡ Err refused → StopAt first (done ++ line ∷ rest) (length done) refused
+led_stops first book done line rest refused lead is =
+    after_more first book 0 done (line ∷ rest) lead ∙ ap (λ r. goes_on r (0 + length done) (after_lines (after_line book line) (0 + length done + 1) rest)) is
 
--- none is left
-pub left_none : (first book : ActState) (list : List Line) (place : ℕ) → length list ≤ place → after_lines first 0 list ≡ after_lines book place (drop place list) → after_lines first 0 list ≡ Ok book
-left_none first book list place all left = left ∙ ap (after_lines book place) (drop_all list place all)
-  where
-    drop_all : {X : Type 0} (xs : List X) (n : ℕ) → length xs ≤ n → drop n xs ≡ []
-    drop_all [] zero all = refl
-    drop_all [] (suc n) all = refl
-    drop_all (x ∷ xs) zero all = absurd (omega (arith, all))
-    drop_all (x ∷ xs) (suc n) all = drop_all xs n (omega (arith, all))
+-- a list with a line that says no command leads nowhere
+pub never_led : (first book : ActState) (place : ℕ) (done : List Line) (refused : Refusal) → after_lines first place (done ++ Err refused ∷ []) ≡ Ok book → ⊥
+never_led first book place [] refused lead = let e : ◌≡◌ {A = Result ActState (ℕ × Refusal)} (Err (place, refused)) (Ok book) = lead in cc
+never_led first book place (line ∷ done) refused lead =
+    elim (answer_to first line) as (λ r. goes_on r place (after_lines (after_line first line) (place + 1) (done ++ Err refused ∷ [])) ≡ Ok book → ⊥) [
+      | Ok reply ↦ λ it. never_led (after_line first line) book (place + 1) done refused it
+      | Err other ↦ λ it. let e : ◌≡◌ {A = Result ActState (ℕ × Refusal)} (Err (place, other)) (Ok book) = it in cc
+    ] lead
 
-pub turn_first : (s : State) (is : BookState) (b : ActState) (list : List Line) → IsTrue s.in_transaction → IsReached b → AllByRecursion IsReferenced b.accepted → is ≡ b.book → InTurn s s is b list 0 0
-turn_first s is b list inside reached valid memory = record {
+pub led_first : (s : State) (is : BookState) (b : ActState) → IsTrue s.in_transaction → IsReached b → AllByRecursion IsReferenced b.accepted → is ≡ b.book → LedBy s s is b [] 0
+led_first s is b inside reached valid memory = record {
   book = b;
-  left = refl;
+  lead = refl;
   count = omega arith;
   leads = leads_none s b inside;
   reached = reached;
@@ -220,44 +220,50 @@ turn_first s is b list inside reached valid memory = record {
   memory = memory;
 }
 
-pub turn_next : (old mid new : State) (was is : BookState) (b : ActState) (list : List Line) (place added : ℕ) (d : Line) (is_new : Bool) (it : InTurn old mid was b list place added) → place < length list
-    → Steps mid new is it.book (get_or list place d) is_new → InTurn old new is b list (place + 1) (added + (if is_new then 1 else 0))
-turn_next old mid new was is b list place added d is_new it low step =
-    let line = get_or list place d in
-    record {
-      book = after_line it.book line;
-      left = left_next b it.book list place d low it.left step.answered;
-      count = let e : length b.accepted + (added + (if is_new then 1 else 0)) ≡ length (after_line it.book line).accepted = omega (arith, it.count, step.count) in e;
-      leads = leads_then old mid new b it.book (after_line it.book line) it.leads step.leads;
-      reached = step.reached;
-      valid = step.valid;
-      memory = step.memory;
-    }
-
--- ---- how often the lines were searched for
--- the searches so far with those of the lines that are left are no more than those of all may be
-pub record SearchedTurn (bound : Bound) (old now : State) (is : BookState) (before : ℕ) (n : ℕ) (b : ActState) (list : List Line) (place added : ℕ) : Type 0 where
-  pub turn : InTurn old now is b list place added
-  pub few : n + searches_of_lines bound turn.book (drop place list) ≤ before + searches_of_lines bound b list
-
-pub searched_first : (bound : Bound) (s : State) (is : BookState) (n : ℕ) (b : ActState) (list : List Line) → IsTrue s.in_transaction → IsReached b → AllByRecursion IsReferenced b.accepted → is ≡ b.book → SearchedTurn bound s s is n n b list 0 0
-unfolding turn_first
-searched_first bound s is n b list inside reached valid memory = record { turn = turn_first s is b list inside reached valid memory; few = omega arith }
-
-pub searched_next : (bound : Bound) (old mid new : State) (was is : BookState) (before n m : ℕ) (b : ActState) (list : List Line) (place added : ℕ) (d : Line) (is_new : Bool) (it : SearchedTurn bound old mid was before n b list place added) → place < length list
-    → Steps mid new is it.turn.book (get_or list place d) is_new → m ≤ n + searches_of_line bound it.turn.book (get_or list place d)
-    → SearchedTurn bound old new is before m b list (place + 1) (added + (if is_new then 1 else 0))
-unfolding turn_next
-searched_next bound old mid new was is before n m b list place added d is_new it low step more = record {
-  turn = turn_next old mid new was is b list place added d is_new it.turn low step;
-  few = let here = ap (searches_of_lines bound it.turn.book) (drop_next list place d low) in omega (arith, it.few, here, more);
+pub led_next : (old mid new : State) (was is : BookState) (b : ActState) (done : List Line) (added : ℕ) (line : Line) (is_new : Bool) (it : LedBy old mid was b done added) → Steps mid new is it.book line is_new
+    → LedBy old new is b (done ++ line ∷ []) (added + (if is_new then 1 else 0))
+led_next old mid new was is b done added line is_new it step = record {
+  book = after_line it.book line;
+  lead = led_more b it.book done line it.lead step.answered;
+  count = let e : length b.accepted + (added + (if is_new then 1 else 0)) ≡ length (after_line it.book line).accepted = omega (arith, it.count, step.count) in e;
+  leads = leads_then old mid new b it.book (after_line it.book line) it.leads step.leads;
+  reached = step.reached;
+  valid = step.valid;
+  memory = step.memory;
 }
 
-pub searched_all : (bound : Bound) (old now : State) (is : BookState) (before n : ℕ) (b : ActState) (list : List Line) (place added : ℕ) → SearchedTurn bound old now is before n b list place added → n ≤ before + searches_of_lines bound b list
-searched_all bound old now is before n b list place added it = omega (arith, it.few)
+-- ---- how often the lines were searched for
+searches_more : (bound : Bound) (first book : ActState) (place : ℕ) (done : List Line) (line : Line) → after_lines first place done ≡ Ok book
+    → searches_of_lines bound first (done ++ line ∷ []) ≡ searches_of_lines bound first done + searches_of_line bound book line
+searches_more bound first book place [] line lead =
+    let same : first ≡ book = (let e : ◌≡◌ {A = Result ActState (ℕ × Refusal)} (Ok first) (Ok book) = lead in cc) in
+    let here = ap (λ c. searches_of_line bound c line) same in
+    omega (arith, here)
+searches_more bound first book place (x ∷ done) line lead =
+    elim (answer_to first x) as (λ r. goes_on r place (after_lines (after_line first x) (place + 1) done) ≡ Ok book
+    → searches_of_lines bound first (x ∷ done ++ line ∷ []) ≡ searches_of_lines bound first (x ∷ done) + searches_of_line bound book line) [
+      | Ok reply ↦ λ it. let rest = searches_more bound (after_line first x) book (place + 1) done line it in omega (arith, rest)
+      | Err refused ↦ λ it. absurd (let e : ◌≡◌ {A = Result ActState (ℕ × Refusal)} (Err (place, refused)) (Ok book) = it in cc)
+    ] lead
+
+-- the lines so far were answered, and searched for no more often than they may be
+pub record SearchedTurn (bound : Bound) (old now : State) (is : BookState) (before : ℕ) (n : ℕ) (b : ActState) (done : List Line) (added : ℕ) : Type 0 where
+  pub turn : LedBy old now is b done added
+  pub few : n ≤ before + searches_of_lines bound b done
+
+pub searched_first : (bound : Bound) (s : State) (is : BookState) (n : ℕ) (b : ActState) → IsTrue s.in_transaction → IsReached b → AllByRecursion IsReferenced b.accepted → is ≡ b.book → SearchedTurn bound s s is n n b [] 0
+searched_first bound s is n b inside reached valid memory = record { turn = led_first s is b inside reached valid memory; few = omega arith }
+
+pub searched_next : (bound : Bound) (old mid new : State) (was is : BookState) (before n m : ℕ) (b : ActState) (done : List Line) (added : ℕ) (line : Line) (is_new : Bool) (it : SearchedTurn bound old mid was before n b done added)
+    → Steps mid new is it.turn.book line is_new → m ≤ n + searches_of_line bound it.turn.book line
+    → SearchedTurn bound old new is before m b (done ++ line ∷ []) (added + (if is_new then 1 else 0))
+searched_next bound old mid new was is before n m b done added line is_new it step more = record {
+  turn = led_next old mid new was is b done added line is_new it.turn step;
+  few = let all = searches_more bound b it.turn.book 0 done line it.turn.lead in omega (arith, it.few, all, more);
+}
 
 -- a line was refused, or memory was or the store failed
-pub halts : (mid new : State) (is : BookState) (first book : ActState) (list : List Line) (place : ℕ) (d : Line) (stop : Stop) → place < length list → after_lines first 0 list ≡ after_lines book place (drop place list)
-    → Tries mid new is book (get_or list place d) (Err stop) → Halts first list place stop
-halts mid new is first book list place d (Refused refused) low left it = left_stops first book list place d refused low left it
-halts mid new is first book list place d (Fault fault) low left it = tt
+pub halts : (mid new : State) (is : BookState) (first book : ActState) (done : List Line) (line : Line) (rest : List Line) (place : ℕ) (stop : Stop) → length done ≡ place → LeadTo done first book
+    → Tries mid new is book line (Err stop) → Halts first (done ++ line ∷ rest) place stop
+halts mid new is first book done line rest place (Refused refused) count lead it = subst (λ n. StopAt first (done ++ line ∷ rest) n refused) count (led_stops first book done line rest refused lead it)
+halts mid new is first book done line rest place (Fault fault) count lead it = tt

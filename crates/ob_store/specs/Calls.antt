@@ -1,6 +1,6 @@
 -- What a call makes of a keeper, as the crates above state it: no store, table or file is named by them. Where another module has a
 -- word of the same name, that one speaks of a keeper's parts over a store that it names, and this one of the keeper.
-use Rattle.std.specs.Prelude.{◌≡◌, ◌⊎◌, ⊤, ℕ, Bool, List, Option, IsSome, IsTrue, Result}
+use Rattle.std.specs.Prelude.{◌≡◌, ◌⊎◌, ◌≤◌, ◌+◌, ⊤, ℕ, Bool, List, length, Option, IsSome, IsTrue, Result, IfOk, IfErr}
 use Rattle.sqlite_trees.specs.declared.store.Store.{Ghosts}
 use Rattle.sqlite.specs.Held.{state}
 use Rattle.sqlite.specs.State.{Survives}
@@ -16,16 +16,17 @@ use Rattle.ob_store.specs.Acting as acting
 use Rattle.ob_store.specs.Crashing as crashing
 use Rattle.ob_store.specs.Creating as creating
 use Rattle.ob_store.specs.Creating.{HeldNothing, LeavesAll, MayBegin}
-use Rattle.ob_store.specs.Keepers.{HasOldTables, HasTables, IsClean, IsOpen, StoresNumbers, StoresOld, Ties, book_of}
+use Rattle.ob_store.specs.Keepers.{HasOldTables, HasTables, IsClean, IsOpen, StoresNumbers, StoresOld, Ties, book_of, searches_of}
 use Rattle.ob_store.specs.Keeping.{Answers, KeepsOn}
 use Rattle.ob_store.specs.Loading as loading
 use Rattle.ob_store.specs.Migrating.{LeavesKept, LeftAsItWas, Migrated, MigratesKept, MigratesOn}
 use Rattle.ob_store.specs.MovingOut as moving
 use Rattle.ob_store.specs.Replying as replying
 use Rattle.ob_store.specs.Searching as searching
+use Rattle.ob_store.specs.Searching.{searches_of_lines}
 use Rattle.ob_store.specs.Versions as versions
 use Rattle.ob_store.specs.Whole as whole
-use Rattle.ob_store.specs.Whole.{Line}
+use Rattle.ob_store.specs.Whole.{LeadTo, Line}
 use Rattle.ob_store.specs.declared.keeper.Keeper.{Keeper}
 use Rattle.ob_store.specs.declared.reply.Reply.{Reply}
 use Rattle.ob_store.specs.declared.whole.Halted.{Halted}
@@ -154,6 +155,17 @@ module _ {S T : Type 0} {g : Ghosts S} where
   -- a crash leaves what it could leave before; or, of a book that the keeper had, one that it leads to so
   abbrev pub CommitsOf : (ActState → ActState → Type 0) → Keeper S T g → Keeper S T g → Type 0
   CommitsOf Leads old new = whole.CommitsOf g Leads old.parts new.parts
+
+  -- what the lines of this list made of a keeper, each searched for as its command is, and how it ended; a crash leaves what it could
+  -- leave before, or that with all commands of the list
+  pub record ActsOnList (old new : Keeper S T g) (bound : Bound) (list : List Line) (result : Result ℕ Halted) : Type 0 where
+    pub few : IfOk result (λ added. added ≤ length list)
+    pub within : IfErr result (λ e. e.place ≤ length list)
+    pub acted : IfHeld old new (λ b. ActedAll new b list result)
+    -- if the hidden row numbers are consecutive, the store is reported to have failed with a cause only
+    pub cause : IfHeld old new (λ b. StoresNumbers old → HasListCause old new b list result)
+    pub commits : CommitsOf (LeadTo list) old new
+    pub searched : IfHeld old new (λ b. searches_of new ≤ searches_of old + searches_of_lines bound b list)
 
   -- a new book of a period was made, or why none was
   abbrev pub Created : Keeper S T g → Keeper S T g → List ℕ → ℕ → List ℕ → Result ⊤ Stop → Type 0

@@ -20,3 +20,4 @@ pub mod Keepers
 pub mod Calls
 pub mod Whole
 pub mod Searching
+pub mod Lines

@@ -1,5 +1,5 @@
 -- What a list of commands makes of a book in one transaction: all of them, or none.
-use Rattle.std.specs.Prelude.{◌≡◌, ◌⊎◌, ◌+◌, ℕ, ⊤, Bool, true, List, [], ◌∷◌, length, drop, None, Result, Ok, Err, IsSome, IsTrue, IfErr, if◌then◌else◌}
+use Rattle.std.specs.Prelude.{◌≡◌, ◌⊎◌, ◌+◌, ℕ, ⊤, Bool, true, List, [], ◌∷◌, length, None, Result, Ok, Err, IsSome, IsTrue, IfErr, if◌then◌else◌}
 use Rattle.std.specs.List.{AllByRecursion}
 use Rattle.std.specs.Result.{is_ok}
 use Rattle.sqlite_trees.specs.declared.store.Store.{Ghosts}
@@ -90,16 +90,6 @@ abbrev pub Tries : State → State → BookState → ActState → Line → Resul
 Tries old new is b line (Ok is_new) = Steps old new is b line is_new
 Tries old new is b line (Err (Refused refusal)) = answer_to b line ≡ Err refusal
 Tries old new is b line (Err (Fault fault)) = ⊤
-
--- the lines before this place were answered, so many of them were new, and these are left
-pub record InTurn (old new : State) (is : BookState) (b : ActState) (list : List Line) (place added : ℕ) : Type 0 where
-  pub book : ActState
-  pub left : after_lines b 0 list ≡ after_lines book place (drop place list)
-  pub count : length b.accepted + added ≡ length book.accepted
-  pub leads : LeadsTables old new b book
-  pub reached : IsReached book
-  pub valid : AllByRecursion IsReferenced book.accepted
-  pub memory : is ≡ book.book
 
 -- all lines of a list were answered, so many of them were new, and the book after them is in the tables and in memory
 pub record LedBy (old new : State) (is : BookState) (b : ActState) (list : List Line) (added : ℕ) : Type 0 where

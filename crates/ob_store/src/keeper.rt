@@ -6,6 +6,7 @@ ghost use Rattle.ob_store.specs.Keeping.{IsBookAfter};
 use crate::acting::act_on;
 use crate::crash::{crash_law, old_crash_law};
 use crate::creating::create_on;
+use crate::lines::Lines;
 use crate::loading::{audit_on, load_on};
 use crate::migrating::migrate_on;
 use crate::moving::{Halt, MoveSink, hand_out, moves_law};
@@ -43,7 +44,7 @@ fn settle<T: Timeline>(book: &mut Option<Book<T>>, stop: Stop)
 }
 
 impl<S: Alter, T: Timeline> Keeper<S, T> {
-    ghost use Rattle.std.specs.Prelude.{◌≡◌, ◌↔◌, ◌≤◌, ◌+◌, length, false, None, Some, Err, IsErr, IsSome, IfErr, IfOk, IfSome, OnOk};
+    ghost use Rattle.std.specs.Prelude.{◌≡◌, ◌↔◌, ◌≤◌, ◌+◌, false, None, Some, Err, IsErr, IsSome, IfErr, IfOk, IfSome, OnOk};
     ghost use Rattle.std.specs.Option.{option_map};
     ghost use Rattle.ob_base.specs.declared.stop.Refusal.{Refusal as ARefusal};
     ghost use Rattle.ob_base.specs.declared.stop.Fault.{Fault as AFault};
@@ -58,14 +59,14 @@ impl<S: Alter, T: Timeline> Keeper<S, T> {
     ghost use Rattle.ob_sql_rows.specs.Steps.{IsStoreFault};
     ghost use Rattle.ob_sql_read.specs.Reading.{IsReadFault};
     ghost use Rattle.ob_store.specs.Acting.{IsActStop, under};
-    ghost use Rattle.ob_store.specs.Calls.{Acted, ActedAll, Audited, CommitsNothing, CommitsOf, CommitsUpgrade, Created, ForgetsNoFault, HasCommandCause, HasCreationCause, HasListCause, HasReadCause, IfHeld, IfStoredOld, KeepsLimit, LeavesCurrentTables, Loaded, Loads, MigratesOldTables, MigratesStoredBook, MigrationAnswers, MovesOut, OnOldTables, OnTables, Outdated, ReadAnswers, Replied, SearchesOfLoad, WasClean};
+    ghost use Rattle.ob_store.specs.Calls.{Acted, ActsOnList, Audited, CommitsNothing, CommitsUpgrade, Created, ForgetsNoFault, HasCommandCause, HasCreationCause, HasReadCause, IfHeld, IfStoredOld, KeepsLimit, LeavesCurrentTables, Loaded, Loads, MigratesOldTables, MigratesStoredBook, MigrationAnswers, MovesOut, OnOldTables, OnTables, Outdated, ReadAnswers, Replied, SearchesOfLoad, WasClean};
     ghost use Rattle.ob_store.specs.Keepers.{IsClean, SearchesNoMore, StoresNumbers, Ties, book_of, connection_of, searches_of};
     ghost use Rattle.ob_store.specs.Keeping.{IsBookAfter};
+    ghost use Rattle.ob_store.specs.Lines.{OverLines};
     ghost use Rattle.ob_store.specs.MovingOut.{HandsOver, IsBookAfterMoves, MovesAreRows};
     ghost use Rattle.ob_store.specs.OldCrashing.{OldCrashLaw};
-    ghost use Rattle.ob_store.specs.Searching.{searches_of_lines};
     ghost use Rattle.ob_store.specs.Versions.{IsLoadFault};
-    ghost use Rattle.ob_store.specs.Whole.{LeadTo, no_book};
+    ghost use Rattle.ob_store.specs.Whole.{no_book};
 
     /// Creates a keeper over a connection without an open transaction. It has no book yet.
     pub fn adopt_connection(alloc: Global, conn: Connection<S>) -> Keeper<S, T>
@@ -158,37 +159,31 @@ impl<S: Alter, T: Timeline> Keeper<S, T> {
     }
 
     /// Applies the lines of a list in one transaction, each as `act` does, and commits after the
-    /// last: all of them, or none. A line is a command under its reference, or the refusal of a
-    /// line that says none. Returns how many commands were new to the book. If a line is refused,
-    /// an allocation fails or the store fails, nothing of the list is in the store and the keeper
-    /// has no book until `load`; if the store fails to confirm the commit, the store holds all of
-    /// it or nothing. Reports each line to `progress`. `Fault::Reopen` if the keeper has no book.
-    pub fn act_all<P: Progress>(
+    /// last: all of them, or none. Takes the lines one after another, so only one is held. A line is
+    /// a command under its reference, or the refusal of a line that says none. Returns how many
+    /// commands were new to the book. If a line is refused, an allocation fails or the store fails,
+    /// nothing of the list is in the store and the keeper has no book until `load`; if the store
+    /// fails to confirm the commit, the store holds all of it or nothing. Reports each line to
+    /// `progress`. `Fault::Reopen` if the keeper has no book.
+    pub fn act_all<L: Lines, P: Progress>(
         &mut self,
-        list: &[Result<(Ref, Command), Refusal>],
+        lines: &mut L,
         progress: &mut P,
     ) -> Result<usize, Halted>
         ensures reopen { (book_of self.old ≡ None) ↔ (result ≡ no_book) }
-        ensures unopened { book_of self.old ≡ None → self.new ≡ self.old }
-        ensures few { IfOk result (λ added. added ≤ length list.now) }
-        ensures within { IfErr result (λ e. e.place ≤ length list.now) }
+        ensures unopened { book_of self.old ≡ None → (self.new ≡ self.old)
+            × (lines.new ≡ lines.old) }
         ensures faults { IsSome (book_of self.old) → IfErr result (λ e. IsActStop e.stop) }
         ensures dropped { IsSome (book_of self.old) → (book_of self.new ≡ None) ↔ IsErr result }
         ensures clean { WasClean self.old self.new }
         ensures limit { KeepsLimit self.old self.new }
-        ensures acted { IfHeld self.old self.new (λ b. ActedAll self.new b list.now result) }
-        // if the hidden row numbers are consecutive, `Fault::Store` is returned only if the store
-        // failed, or rolled the rows of the list back
-        ensures cause { IfHeld self.old self.new (λ b. StoresNumbers self.old
-            → HasListCause self.old self.new b list.now result) }
+        // all else is said of every list that begins with the lines taken: of that list alone if it
+        // was told that no line is left
+        ensures over { OverLines L.gives lines.old lines.new (λ list. ActsOnList self.old self.new
+            T.bound list result) }
         // the row numbers stay consecutive
         ensures numbered { (b : ActState) → Ties self.old b → StoresNumbers self.old
             → StoresNumbers self.new }
-        // a crash leaves what it could leave before, or that with all commands of the list
-        ensures commits { CommitsOf (LeadTo list.now) self.old self.new }
-        // each line is searched for as `act` does
-        ensures searched { IfHeld self.old self.new (λ b. searches_of self.new
-            ≤ searches_of self.old + searches_of_lines T.bound b list.now) }
     {
         let parts = &mut self.parts;
         let Some(book) = &mut parts.book else {
@@ -197,7 +192,7 @@ impl<S: Alter, T: Timeline> Keeper<S, T> {
                 stop: Stop::Fault(Fault::Reopen),
             });
         };
-        match act_all_on(parts.alloc, &mut parts.conn, book, list, progress) {
+        match act_all_on(parts.alloc, &mut parts.conn, book, lines, progress) {
             Ok(added) => Ok(added),
             Err(halted) => {
                 parts.book = None;

@@ -12,6 +12,7 @@ mod crash;
 mod creating;
 mod keeper;
 mod led;
+mod lines;
 mod loading;
 mod migrating;
 mod moving;
@@ -25,6 +26,7 @@ mod whole;
 
 pub use crash::{crash_law, left_law, load_law, load_searches_law, old_crash_law};
 pub use keeper::Keeper;
+pub use lines::Lines;
 pub use moving::MoveSink;
 pub use ob_sql_read::{Progress, Silent, Work};
 pub use reply::{Moves, Reply};

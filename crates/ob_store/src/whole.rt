@@ -1,7 +1,7 @@
 //! Applies a list of commands in one transaction: all of them, or none.
-ghost use Rattle.std.specs.Prelude.{◌≡◌, ◌≤◌, ◌<◌, ◌+◌, if◌then◌else◌, false, None, length, Ok, IsTrue, IfErr, IfOk, OnOk};
+ghost use Rattle.std.specs.Prelude.{◌≡◌, ◌≤◌, ◌+◌, ◌∷◌, if◌then◌else◌, false, None, Ok, IsTrue, IfErr, OnOk};
 ghost use Rattle.sqlite.specs.Held.{state};
-ghost use Rattle.sqlite.specs.State.{HasCleanDisk, Survives};
+ghost use Rattle.sqlite.specs.State.{HasCleanDisk};
 ghost use Rattle.ob_book.specs.Acts.{ActState, number_of};
 ghost use Rattle.ob_book.specs.Searches.{searches_of_act};
 ghost use Rattle.ob_command.specs.Commands.{IsCommand, body_text as body_text_of};
@@ -9,9 +9,11 @@ ghost use Rattle.ob_sql_rows.specs.Steps.{HasFaultCause, Silent};
 ghost use Rattle.ob_sql_write.specs.Keeps.{KeepsNumbers};
 ghost use Rattle.ob_store.specs.Acting.{IsActStop, under};
 ghost use Rattle.ob_store.specs.Keeping.{KeepsBook};
-ghost use Rattle.ob_store.specs.Searching.{searches_of_line, searches_of_lines};
-ghost use Rattle.ob_store.specs.Whole.{ActsAll, HasListCause, HasLineCause, IsWhole, LeavesLast, ShowsBook, Tries, TriesAll};
+ghost use Rattle.ob_store.specs.Lines.{CommitsList, OverLines, TriesList};
+ghost use Rattle.ob_store.specs.Searching.{searches_of_line};
+ghost use Rattle.ob_store.specs.Whole.{HasLineCause, IsWhole, ShowsBook, Tries};
 
+use crate::lines::Lines;
 use ob_base::{Fault, Ref, Refusal, Stop};
 use ob_book::{Book, Command, body_text};
 use ob_record::{act_of, naming_law, reached_law};
@@ -24,10 +26,20 @@ use std::alloc::Global;
 /// Why a list of commands was not applied.
 #[derive(Clone, Copy, Debug, PartialEq, Eq)]
 pub struct Halted {
-    /// The place in the list of the line that was being applied, from 0; its length after all lines.
+    /// The place in the list of the line that was being taken or applied, from 0; its length after
+    /// all lines.
     pub place: usize,
     /// Why it stopped.
     pub stop: Stop,
+}
+
+/// The lines of a list that were applied.
+#[derive(Clone, Copy)]
+pub(crate) struct Applied {
+    // All of them.
+    lines: usize,
+    // Those whose command was new to the book.
+    added: usize,
 }
 
 /// Decides on a command under a new reference, writes its rows, and adopts it.
@@ -162,92 +174,99 @@ fn count_of(is_new: bool) -> usize
     if is_new { 1 } else { 0 }
 }
 
-/// Applies the lines of a list inside a transaction, up to the first that is refused, and returns
-/// how many of their commands were new to the book. Commits nothing.
-fn act_lines<S: Alter, T: Timeline, P: Progress>(
+/// Applies a line and those that follow it inside a transaction, up to the first that is refused.
+/// Commits nothing.
+fn act_lines<S: Alter, T: Timeline, L: Lines, P: Progress>(
     alloc: Global,
     tx: &mut Transaction<'_, S>,
     book: &mut Book<T>,
-    list: &[Result<(Ref, Command), Refusal>],
+    first: Result<(Ref, Command), Refusal>,
+    lines: &mut L,
     progress: &mut P,
-) -> Result<usize, Halted>
+) -> Result<Applied, Halted>
     requires inside { IsTrue (state S.Store tx.old.conn.now).in_transaction }
     ensures same_reference { tx.new.conn.ghost_name ≡ tx.old.conn.ghost_name }
     ensures silent { Silent (state S.Store tx.old.conn.now) (state S.Store tx.new.conn.now) }
-    ensures few { IfOk result (λ added. added ≤ length list.now) }
-    ensures within { IfErr result (λ e. e.place ≤ length list.now) }
     ensures faults { IfErr result (λ e. IsActStop e.stop) }
-    ensures live { HasCleanDisk (state S.Store tx.new.conn.now) → 0 < length list.now
+    ensures live { HasCleanDisk (state S.Store tx.new.conn.now)
         → OnOk result (IsTrue (state S.Store tx.old.conn.now).is_open) }
-    ensures tries { HasCleanDisk (state S.Store tx.new.conn.now) → (b : ActState)
-        → ShowsBook (state S.Store tx.old.conn.now) b → book.old.state ≡ b.book
-        → TriesAll (state S.Store tx.old.conn.now) (state S.Store tx.new.conn.now) book.new.state b
-        list.now result }
+    ensures over { OverLines L.gives lines.old lines.new (λ list. TriesList T.bound
+        (state S.Store tx.old.conn.now) (state S.Store tx.new.conn.now) book.old.state
+        book.new.state book.old.searches book.new.searches (first ∷ list) result) }
     ensures cause { HasCleanDisk (state S.Store tx.new.conn.now) → (b : ActState)
         → ShowsBook (state S.Store tx.old.conn.now) b → IsWhole (state S.Store tx.old.conn.now)
         → book.old.state ≡ b.book
         → HasLineCause (state S.Store tx.old.conn.now) (state S.Store tx.new.conn.now) result }
-    ensures searched { HasCleanDisk (state S.Store tx.new.conn.now) → (b : ActState)
-        → ShowsBook (state S.Store tx.old.conn.now) b → book.old.state ≡ b.book
-        → OnOk result (book.new.searches ≤ book.old.searches
-        + searches_of_lines T.bound b list.now) }
 {
+    let mut line = first;
     let mut added = 0usize;
-    'lines: for place in 0..list.len() {
-        match act_line(alloc, tx, book, &list[place]) {
-            Ok(is_new) => {
-                added += count_of(is_new);
-                progress.step(u32::try_from(place + 1).unwrap_or(u32::MAX));
-            }
+    'each: for place in 0..usize::MAX {
+        match act_line(alloc, tx, book, &line) {
+            Ok(is_new) => added += count_of(is_new),
             Err(stop) => return Err(Halted { place, stop }),
         }
+        let count = place + 1;
+        progress.step(u32::try_from(count).unwrap_or(u32::MAX));
+        match lines.next() {
+            Ok(Some(next)) => line = next,
+            Ok(None) => {
+                return Ok(Applied {
+                    lines: count,
+                    added,
+                });
+            }
+            Err(fault) => return Err(starved(count, fault)),
+        }
     }
-    Ok(added)
+    Err(starved(usize::MAX, Fault::OutOfMemory))
 }
 
-/// Applies the lines of a list in one transaction, and commits it after the last.
-pub(crate) fn act_all_on<S: Alter, T: Timeline, P: Progress>(
+/// A list that was halted before the line of a place, since memory was refused.
+fn starved(place: usize, fault: Fault) -> Halted
+    ensures place { result.place ≡ place }
+    ensures stop { result.stop ≡ Stop.Fault fault }
+{
+    Halted {
+        place,
+        stop: Stop::Fault(fault),
+    }
+}
+
+/// Applies lines that are given one after another in one transaction, and commits it after the
+/// last. Begins none if there is no line.
+pub(crate) fn act_all_on<S: Alter, T: Timeline, L: Lines, P: Progress>(
     alloc: Global,
     conn: &mut Connection<S>,
     book: &mut Book<T>,
-    list: &[Result<(Ref, Command), Refusal>],
+    lines: &mut L,
     progress: &mut P,
 ) -> Result<usize, Halted>
     requires mode { conn.old.in_transaction ≡ false }
     ensures mode { conn.new.in_transaction ≡ false }
-    ensures few { IfOk result (λ added. added ≤ length list.now) }
-    ensures within { IfErr result (λ e. e.place ≤ length list.now) }
     ensures faults { IfErr result (λ e. IsActStop e.stop) }
-    ensures acts { HasCleanDisk (state S.Store conn.new) → (b : ActState)
-        → KeepsBook (state S.Store conn.old) b → book.old.state ≡ b.book
-        → ActsAll S.Store conn.new book.new.state b list.now result }
-    ensures cause { HasCleanDisk (state S.Store conn.new) → (b : ActState)
-        → KeepsBook (state S.Store conn.old) b → KeepsNumbers (state S.Store conn.old)
-        → book.old.state ≡ b.book → HasListCause S.Store conn.old conn.new b list.now result }
+    ensures over { OverLines L.gives lines.old lines.new (λ list. CommitsList S.Store T.bound
+        conn.old conn.new book.old.state book.new.state book.old.searches book.new.searches list
+        result) }
     ensures numbered { (b : ActState) → KeepsBook (state S.Store conn.old) b
         → book.old.state ≡ b.book → KeepsNumbers (state S.Store conn.old)
         → KeepsNumbers (state S.Store conn.new) }
-    ensures survives { Survives (state S.Store conn.old) (state S.Store conn.new)
-        (LeavesLast (state S.Store conn.old) book.old.state list.now) }
-    ensures searched { HasCleanDisk (state S.Store conn.new) → (b : ActState)
-        → KeepsBook (state S.Store conn.old) b → book.old.state ≡ b.book
-        → OnOk result (book.new.searches ≤ book.old.searches
-        + searches_of_lines T.bound b list.now) }
 {
-    if list.is_empty() {
-        return Ok(0);
-    }
+    let first = match lines.next() {
+        Ok(Some(first)) => first,
+        Ok(None) => return Ok(0),
+        Err(fault) => return Err(starved(0, fault)),
+    };
     // an open connection shows a complete database
     let _schema = conn.schema();
     let mut tx = conn.transaction();
-    let added = match act_lines(alloc, &mut tx, book, list, progress) {
-        Ok(added) => added,
+    let applied = match act_lines(alloc, &mut tx, book, first, lines, progress) {
+        Ok(applied) => applied,
         Err(halted) => return Err(halted),
     };
     match tx.commit() {
-        Ok(()) => Ok(added),
+        Ok(()) => Ok(applied.added),
         Err(_) => Err(Halted {
-            place: list.len(),
+            place: applied.lines,
             stop: Stop::Fault(Fault::Store),
         }),
     }
