@@ -3,3 +3,4 @@ pub mod Importing
 pub mod Lines
 pub mod Wholly
 pub mod Reading
+pub mod Taking

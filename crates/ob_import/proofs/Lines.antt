@@ -1,7 +1,6 @@
 -- The rows of a text as the lines of a list, and what the list makes of a book.
 use Rattle.std.proofs.Common.{◌≡◌, ◌≤◌, ◌<◌, ◌∙◌, sym, ap, subst, refl, ℕ, ◌+◌, Bool, true, false, true≢false, List, [], ◌∷◌, ◌++◌, length, cond, Option, Some, None, Result, Ok, Err, inl, inr, nat_lt, arith, append_assoc, append-nil, length-append}
 use Rattle.std.specs.Bool.{MatchBool}
-use Rattle.std.specs.Prelude.{⊤}
 use Rattle.std.specs.Result.{is_ok}
 use Rattle.std.proofs.lemmas.Bool.{cases_Bool}
 use Rattle.std.proofs.lemmas.Bool.Decides.{nat_tests}
@@ -17,14 +16,7 @@ use Rattle.ob_import.specs.Imports.{IsRefused, Says, Stops, Taken}
 use Rattle.ob_import.specs.Whole.{AreLines, IsLine}
 use Rattle.ob_import.proofs.Importing.{taken_more}
 
--- ---- lines that say commands, one after another
-abbrev pub AllSaid : ℕ → List Fields → List Line → Type 0
-AllSaid number [] [] = ⊤
-AllSaid number (row ∷ rows) (Ok said ∷ list) = IsLine number row (Ok said) × AllSaid (number + 1) rows list
-AllSaid number (row ∷ rows) (Err refusal ∷ list) = ⊥
-AllSaid number [] (line ∷ list) = ⊥
-AllSaid number (row ∷ rows) [] = ⊥
-
+-- ---- a row that says a command
 -- a row that says a command is none past the last that a text may have
 pub is_within : (number : ℕ) (row : Fields) (said : List ℕ × Command) → IsLine number row (Ok said) → (nat_lt 1_000_000 number ≡ false) × IsRow row (Ok said)
 is_within number row said is = elim (cases_Bool (nat_lt 1_000_000 number)) [
@@ -37,44 +29,6 @@ number_is number within = elim (cases_Bool (nat_lt 1_000_000 number)) [
   | inl past ↦ absurd (true≢false (sym past ∙ within))
   | inr same ↦ grind (arith, nat_tests, within)
 ]
-
-pub said_more : (number : ℕ) (rows : List Fields) (list : List Line) (row : Fields) (said : List ℕ × Command) → AllSaid number rows list → IsLine (number + length list) row (Ok said)
-    → AllSaid number (rows ++ row ∷ []) (list ++ Ok said ∷ [])
-said_more number [] [] row said all is = (let e : number + 0 ≡ number = omega arith in subst (λ n. IsLine n row (Ok said)) e is, tt)
-said_more number [] (line ∷ list) row said all is = absurd all
-said_more number (x ∷ rows) [] row said all is = absurd all
-said_more number (x ∷ rows) (Ok other ∷ list) row said all is =
-    (all.0, said_more (number + 1) rows list row said all.1 (let e : number + length (Ok other ∷ list) ≡ number + 1 + length list = omega arith in subst (λ n. IsLine n row (Ok said)) e is))
-said_more number (x ∷ rows) (Err refusal ∷ list) row said all is = absurd all
-
--- all rows were read
-pub lines_all : (number : ℕ) (rows : List Fields) (list : List Line) → AllSaid number rows list → AreLines number rows list
-lines_all number [] [] all = tt
-lines_all number [] (line ∷ list) all = absurd all
-lines_all number (x ∷ rows) [] all = absurd all
-lines_all number (x ∷ rows) (Ok said ∷ list) all = (all.0, lines_all (number + 1) rows list all.1)
-lines_all number (x ∷ rows) (Err refusal ∷ list) all = absurd all
-
--- up to a row that says none
-pub lines_last : (number : ℕ) (rows later : List Fields) (list : List Line) (row : Fields) (refusal : Refusal) → AllSaid number rows list → IsLine (number + length list) row (Err refusal)
-    → AreLines number (rows ++ row ∷ later) (list ++ Err refusal ∷ [])
-lines_last number [] later [] row refusal all is = (let e : number + 0 ≡ number = omega arith in subst (λ n. IsLine n row (Err refusal)) e is, refl)
-lines_last number [] later (line ∷ list) row refusal all is = absurd all
-lines_last number (x ∷ rows) later [] row refusal all is = absurd all
-lines_last number (x ∷ rows) later (Ok other ∷ list) row refusal all is =
-    (all.0, lines_last (number + 1) rows later list row refusal all.1 (let e : number + length (Ok other ∷ list) ≡ number + 1 + length list = omega arith in subst (λ n. IsLine n row (Err refusal)) e is))
-lines_last number (x ∷ rows) later (Err other ∷ list) row refusal all is = absurd all
-
--- so many rows at most say commands
-pub said_few : (number : ℕ) (rows : List Fields) (list : List Line) → AllSaid number rows list → number ≤ 1_000_001 → number + length list ≤ 1_000_001
-said_few number [] [] all few = omega (arith, few)
-said_few number [] (line ∷ list) all few = absurd all
-said_few number (x ∷ rows) [] all few = absurd all
-said_few number (x ∷ rows) (Ok said ∷ list) all few =
-    let one = number_is number (is_within number x said all.0).0 in
-    let rest = said_few (number + 1) rows list all.1 (omega (arith, one)) in
-    omega (arith, rest)
-said_few number (x ∷ rows) (Err refusal ∷ list) all few = absurd all
 
 -- ---- what the list makes of a book
 -- a line is refused

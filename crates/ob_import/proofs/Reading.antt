@@ -1,30 +1,36 @@
--- The rows of a text that were read as lines so far.
-use Rattle.std.proofs.Common.{◌≡◌, ◌≢◌, ◌≤◌, ◌∙◌, sym, ap, subst, refl, ℕ, ◌+◌, Bool, true, false, List, [], ◌∷◌, ◌++◌, length, cond, Option, Some, None, Result, Ok, Err, nat_lt, arith, append_assoc, append-nil}
-use Rattle.std.specs.Result.{is_ok}
+-- The rows of a text that were given as lines.
+use Rattle.std.proofs.Common.{◌≡◌, ◌≢◌, ◌≤◌, ◌∙◌, sym, ap, subst, refl, ℕ, ◌+◌, Bool, true, false, true≢false, List, [], ◌∷◌, ◌++◌, length, cond, Option, Some, None, Result, Ok, Err, inl, inr, nat_lt, arith}
 use Rattle.ob_base.specs.declared.stop.Fault.{Fault}
 use Rattle.ob_base.specs.declared.stop.Fault.TheVariants as faults
 use Rattle.ob_base.specs.declared.stop.Refusal.{Refusal}
 use Rattle.ob_base.specs.declared.stop.Refusal.TheVariants.{Full}
 use Rattle.ob_csv.specs.Header.{is_header}
 use Rattle.ob_csv.specs.Rows.{Fields, TakesRow}
+use Rattle.ob_csv.specs.RowReading.{rows_left}
 use Rattle.ob_command.specs.declared.command.Command.{Command}
 use Rattle.ob_command.specs.Fields.{IsRow}
+use Rattle.ob_store.specs.Lines.{Ends, GivesAll, OverLines}
 use Rattle.ob_store.specs.Whole.{Line}
 use Rattle.ob_import.specs.Imports.{after_header}
 use Rattle.ob_import.specs.Reports.{HasCause}
-use Rattle.ob_import.specs.Whole.{AreLines, AreLinesOf, IsLine}
-use Rattle.ob_import.proofs.Lines.{AllSaid, lines_all, lines_last, said_few, said_more}
+use Rattle.ob_import.specs.Whole.{AreLines, GivesLine, GivesNone, IsLine}
+use Rattle.ob_import.specs.declared.whole.RowLines.{RowLines}
+use Rattle.ob_import.proofs.Lines.{is_within, number_is}
 
--- so many rows were read as these lines, each of which says a command, and these are left
-pub record SoRead (all : List Fields) (left : Option (List Fields)) (list : List Line) : Type 0 where
-  pub done : List Fields
-  pub later : List Fields
-  pub is_left : left ≡ Some later
-  pub parts : all ≡ done ++ later
-  pub said : AllSaid 1 done list
+-- these rows begin with some that say these lines, numbered from here
+pub record BeginAs (number : ℕ) (rows : List Fields) (list : List Line) : Type 0 where
+  pub front : List Fields
+  pub back : List Fields
+  pub parts : rows ≡ front ++ back
+  pub lines : AreLines number front list
 
-pub read_none : (all : List Fields) → SoRead all (Some all) []
-read_none all = record { done = []; later = all; is_left = refl; parts = refl; said = tt }
+begin_more : (number : ℕ) (rows rest : List Fields) (row : Fields) (said : List ℕ × Command) (list : List Line) → rows ≡ row ∷ rest → IsLine number row (Ok said) → BeginAs (number + 1) rest list → BeginAs number rows (Ok said ∷ list)
+begin_more number rows rest row said list is says it = record {
+  front = row ∷ it.front;
+  back = it.back;
+  parts = is ∙ ap (λ l. row ∷ l) it.parts;
+  lines = (says, it.lines);
+}
 
 -- a row was taken: it is the first of those that are left
 took : (left after : Option (List Fields)) (later : List Fields) (row : Fields) → left ≡ Some later → TakesRow left after true row → (rest : List Fields) × (after ≡ Some rest) × (later ≡ row ∷ rest)
@@ -32,49 +38,76 @@ took None after later row is takes = absurd (let e : ◌≡◌ {A = Option (List
 took (Some l) None later row is takes = absurd takes
 took (Some l) (Some rest) later row is takes = let same : l ≡ later = cc in (rest, refl, sym same ∙ takes)
 
-pub read_more : (all : List Fields) (left after : Option (List Fields)) (list : List Line) (row : Fields) (said : List ℕ × Command) → SoRead all left list → TakesRow left after true row → IsLine (length list + 1) row (Ok said)
-    → SoRead all after (list ++ Ok said ∷ [])
-read_more all left after list row said it takes is =
-    let next = took left after it.later row it.is_left takes in
-    record {
-      done = it.done ++ row ∷ [];
-      later = next.0;
-      is_left = next.1;
-      parts = it.parts ∙ ap (λ l. it.done ++ l) next.2 ∙ sym (append_assoc it.done (row ∷ []) next.0);
-      said = said_more 1 it.done list row said it.said (let e : length list + 1 ≡ 1 + length list = omega arith in subst (λ n. IsLine n row (Ok said)) e is);
-    }
+-- none is left
+no_row : (left after : Option (List Fields)) (later : List Fields) (row : Fields) → left ≡ Some later → TakesRow left after false row → later ≡ []
+no_row None after later row is takes = absurd (let e : ◌≡◌ {A = Option (List Fields)} None (Some later) = is in cc)
+no_row (Some l) after later row is takes = let same : l ≡ later = (let e : Some l ≡ Some later = is in cc) in sym same ∙ takes
 
--- no row is left
-pub read_all : (all : List Fields) (left after : Option (List Fields)) (list : List Line) (row : Fields) → SoRead all left list → TakesRow left after false row → AreLines 1 all list
-read_all all None after list row it takes = absurd (let e : ◌≡◌ {A = Option (List Fields)} None (Some it.later) = it.is_left in cc)
-read_all all (Some l) after list row it takes =
-    let same : l ≡ it.later = (let e : Some l ≡ Some it.later = it.is_left in cc) in
-    let none : it.later ≡ [] = sym same ∙ takes in
-    let whole : it.done ≡ all = sym (append-nil it.done) ∙ ap (λ l. it.done ++ l) (sym none) ∙ sym it.parts in
-    subst (λ rows. AreLines 1 rows list) whole (lines_all 1 it.done list it.said)
+-- ---- the lines that were given
+module _ {R : Type 0} (remaining : R → Option (List ℕ)) where
+  -- none after one that says no command
+  none_after : (was is : RowLines R) (list : List Line) → was.ended ≡ true → GivesAll (GivesLine remaining) was list is → list ≡ []
+  none_after was is [] over all = refl
+  none_after was is (line ∷ list) over all = absurd (true≢false (sym over ∙ all.1.going))
 
--- a row says no command
-pub read_last : (all : List Fields) (left after : Option (List Fields)) (list : List Line) (row : Fields) (refusal : Refusal) → SoRead all left list → TakesRow left after true row → IsLine (length list + 1) row (Err refusal)
-    → AreLines 1 all (list ++ Err refusal ∷ [])
-read_last all left after list row refusal it takes is =
-    let next = took left after it.later row it.is_left takes in
-    subst (λ rows. AreLines 1 rows (list ++ Err refusal ∷ [])) (sym (it.parts ∙ ap (λ l. it.done ++ l) next.2))
-    (lines_last 1 it.done next.0 list row refusal it.said (let e : length list + 1 ≡ 1 + length list = omega arith in subst (λ n. IsLine n row (Err refusal)) e is))
+  -- they are those of the first rows
+  pub given_first : (was is : RowLines R) (rows : List Fields) (list : List Line) → rows_left remaining was.rows ≡ Some rows → GivesAll (GivesLine remaining) was list is → BeginAs (was.given + 1) rows list
+  given_first was is rows [] left all = record { front = []; back = rows; parts = refl; lines = tt }
+  given_first was is rows (Ok said ∷ list) left all =
+      let one = all.1 in
+      let next = took (rows_left remaining was.rows) (rows_left remaining all.0.rows) rows one.row left one.takes in
+      begin_more (was.given + 1) rows next.0 one.row said list next.2 one.says (subst (λ n. BeginAs (n + 1) next.0 list) one.counted (given_first all.0 is next.0 list next.1 all.2))
+  given_first was is rows (Err refusal ∷ list) left all =
+      let one = all.1 in
+      let next = took (rows_left remaining was.rows) (rows_left remaining all.0.rows) rows one.row left one.takes in
+      record { front = one.row ∷ []; back = next.0; parts = next.2; lines = (one.says, none_after all.0 is list one.ended all.2) }
 
--- a row that says a command, or none
-pub read_next : (all : List Fields) (left after : Option (List Fields)) (list : List Line) (row : Fields) (line : Line) → SoRead all left list → TakesRow left after true row → IsLine (length list + 1) row line → is_ok line ≡ true
-    → SoRead all after (list ++ line ∷ [])
-read_next all left after list row (Ok said) it takes is ok = read_more all left after list row said it takes is
-read_next all left after list row (Err refusal) it takes is ok = absurd (let e : false ≡ true = ok in cc)
+  -- where no other is left, of all
+  pub given_all : (was last is : RowLines R) (rows : List Fields) (list : List Line) → rows_left remaining was.rows ≡ Some rows → was.ended ≡ false → was.given ≤ 1_000_000 → GivesAll (GivesLine remaining) was list last → GivesNone remaining last is
+      → AreLines (was.given + 1) rows list
+  given_all was last is rows [] left going few all none =
+      let end = subst (λ x. GivesNone remaining x is) all none in
+      let over : rows ≡ [] = elim end.why [
+        | inl over ↦ absurd (true≢false (sym over ∙ going))
+        | inr rest ↦ elim rest [
+            | inl past ↦ absurd (omega (arith, few, past))
+            | inr takes ↦ no_row (rows_left remaining was.rows) (rows_left remaining is.rows) rows end.row left takes
+          ]
+      ] in
+      subst (λ r. AreLines (was.given + 1) r []) (sym over) tt
+  given_all was last is rows (Ok said ∷ list) left going few all none =
+      let one = all.1 in
+      let next = took (rows_left remaining was.rows) (rows_left remaining all.0.rows) rows one.row left one.takes in
+      let within = number_is (was.given + 1) (is_within (was.given + 1) one.row said one.says).0 in
+      let rest = given_all all.0 last is next.0 list next.1 one.ended (omega (arith, one.counted, within)) all.2 none in
+      subst (λ r. AreLines (was.given + 1) r (Ok said ∷ list)) (sym next.2) (one.says, subst (λ n. AreLines (n + 1) next.0 list) one.counted rest)
+  given_all was last is rows (Err refusal ∷ list) left going few all none =
+      let one = all.1 in
+      let next = took (rows_left remaining was.rows) (rows_left remaining all.0.rows) rows one.row left one.takes in
+      subst (λ r. AreLines (was.given + 1) r (Err refusal ∷ list)) (sym next.2) (one.says, none_after all.0 last list one.ended all.2)
 
-pub read_end : (all : List Fields) (left after : Option (List Fields)) (list : List Line) (row : Fields) (line : Line) → SoRead all left list → TakesRow left after true row → IsLine (length list + 1) row line → is_ok line ≡ false
-    → AreLines 1 all (list ++ line ∷ [])
-read_end all left after list row (Ok said) it takes is ok = absurd (let e : true ≡ false = ok in cc)
-read_end all left after list row (Err refusal) it takes is ok = read_last all left after list row refusal it takes is
+  -- so many were given
+  given_count : (was last : RowLines R) (list : List Line) → GivesAll (GivesLine remaining) was list last → last.given ≡ was.given + length list
+  given_count was last [] all = let same = ap (λ (x : RowLines R). x.given) all in omega (arith, same)
+  given_count was last (line ∷ list) all = let rest = given_count all.0 last list all.2 in omega (arith, all.1.counted, rest)
 
--- more rows than a text may have are never read as commands
-pub read_few : (all : List Fields) (left : Option (List Fields)) (list : List Line) → SoRead all left list → length list ≤ 1_000_000
-read_few all left list it = let e = said_few 1 it.done list it.said (let one : 1 ≤ 1_000_001 = omega arith in one) in omega (arith, e)
+  given_few : (was last : RowLines R) (list : List Line) → was.given ≤ 1_000_001 → GivesAll (GivesLine remaining) was list last → last.given ≤ 1_000_001
+  given_few was last [] few all = let same = ap (λ (x : RowLines R). x.given) all in omega (arith, same, few)
+  given_few was last (line ∷ list) few all = given_few all.0 last list (omega (arith, all.1.counted, all.1.few)) all.2
+
+  end_count : (last is : RowLines R) (ended : Bool) → Ends (GivesLine remaining) last ended is → is.given ≡ last.given
+  end_count last is true ends = ends.counted
+  end_count last is false ends = elim ends [
+    | inl same ↦ ap (λ (x : RowLines R). x.given) same
+    | inr failed ↦ failed.1
+  ]
+
+  pub counted : (was is : RowLines R) (Holds : List Line → Type 0) → was.given ≡ 0 → (it : OverLines (GivesLine remaining) was is Holds) → (is.given ≡ length it.taken) × (is.given ≤ 1_000_001)
+  counted was is Holds none it =
+      let end = end_count it.last is it.ended it.ends in
+      let count = given_count was it.last it.taken it.took in
+      let few = given_few was it.last it.taken (omega (arith, none)) it.took in
+      ((let e : is.given ≡ length it.taken = omega (arith, end, count, none) in e), (let e : is.given ≤ 1_000_001 = omega (arith, end, few) in e))
 
 -- ---- a line
 pub line_full : (number : ℕ) (row : Fields) → nat_lt 1_000_000 number ≡ true → IsLine number row (Err (Full 1_000_000))

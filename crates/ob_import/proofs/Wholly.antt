@@ -25,7 +25,7 @@ use Rattle.ob_store.specs.declared.keeper.Keeper.{Keeper}
 use Rattle.ob_import.specs.Imports.{Import, ImportsBody, Taken, after_header, headless}
 use Rattle.ob_import.specs.Gathering.{IsWithin, is_over}
 use Rattle.ob_import.specs.Reports.{AreRows, HasCause, IsStoreFault, no_book}
-use Rattle.ob_import.specs.Whole.{AreLines, AreLinesOf, BreaksWhole, ImportStops, ImportsAll, IsEndOf, IsStopOf, LeavesWhole, RunsWhole, TellsWholeFaults, WholeOf}
+use Rattle.ob_import.specs.Whole.{AreLines, BreaksWhole, ImportStops, ImportsAll, IsEndOf, IsStopOf, LeavesWhole, RunsWhole, TellsWholeFaults, WholeOf}
 use Rattle.ob_import.specs.declared.report.ImportReport.{ImportReport}
 use Rattle.ob_import.specs.declared.report.ImportFault.{ImportFault}
 use Rattle.ob_import.proofs.Importing.{cause_by, not_bookless, not_none, taken_none, within_gathered}
@@ -66,7 +66,7 @@ module _ (b : ActState) (all rows : List Fields) (list : List Line) (header : af
         refl,
       )
 
-no_book_ties : {S T : Type 0} {g : Ghosts S} (k : Keeper S T g) (b : ActState) → Stores k b → book_of k ≡ None → Ties k b
+pub no_book_ties : {S T : Type 0} {g : Ghosts S} (k : Keeper S T g) (b : ActState) → Stores k b → book_of k ≡ None → Ties k b
 no_book_ties k b keeps none = record { kept = keeps; book = rw none tt }
 
 module _ {S T : Type 0} {g : Ghosts S} (new : Keeper S T g) (b : ActState) (all rows : List Fields) (list : List Line) (header : after_header all ≡ Some rows) (lines : AreLines 1 rows list) where
@@ -114,7 +114,7 @@ memory_no_store e = cc
 reopen_no_store : ◌≡◌ {A = Fault} faults.Reopen faults.Store → ⊥
 reopen_no_store e = cc
 
-stop_of_store : (place : ℕ) (stop : Stop) (result : Result ImportReport ImportFault) → IsStopOf place stop result → IsStoreFault result
+pub stop_of_store : (place : ℕ) (stop : Stop) (result : Result ImportReport ImportFault) → IsStopOf place stop result → IsStoreFault result
     → stop ≡ stops.Fault faults.Store
 stop_of_store place (stops.Refused refusal) result is fails = absurd (subst IsStoreFault is fails)
 stop_of_store place (stops.Fault fault) result is fails = ap (λ f. stops.Fault f) (subst IsStoreFault is fails)
@@ -276,15 +276,6 @@ module _ {S T R : Type 0} {g : Ghosts S} (remaining : R → Option (List ℕ)) w
         commits = (rows, are_any known, commits_none k (ImportsAll rows));
         tells = (rows, are_any known, tells_none k rows done (λ fails. reopen_no_store (subst IsStoreFault told fails)));
       }
-
--- ---- the lines that were read
-pub header_of : (body : Option (List Fields)) (list : List Line) → AreLinesOf body (Some list) → (rows : List Fields) × (body ≡ Some rows) × AreLines 1 rows list
-header_of None list lines = absurd lines
-header_of (Some rows) list lines = (rows, refl, lines)
-
-pub none_of : (body : Option (List Fields)) → AreLinesOf body None → body ≡ None
-none_of None lines = refl
-none_of (Some rows) lines = absurd lines
 
 pub input_no_store : ◌≡◌ {A = Fault} faults.Input faults.Store → ⊥
 input_no_store e = cc

@@ -1,5 +1,5 @@
 -- What an import of a whole text makes of a book: all of its rows, or none.
-use Rattle.std.specs.Prelude.{◌≡◌, ◌↔◌, ◌⊎◌, ◌≤◌, ℕ, ◌+◌, ◌-◌, ⊤, List, [], ◌∷◌, length, Option, Some, None, Result, Ok, Err, nat_lt, MatchOption, IfErr, IfOk, IsSome, option_map}
+use Rattle.std.specs.Prelude.{◌≡◌, ◌↔◌, ◌⊎◌, ◌≤◌, ◌<◌, ℕ, ◌+◌, ◌-◌, ⊤, true, false, List, [], ◌∷◌, length, Option, Some, None, Result, Ok, Err, is_err, nat_lt, MatchOption, IfErr, IfOk, IsSome, option_map}
 use Rattle.std.specs.Bool.{MatchBool}
 use Rattle.ob_base.specs.declared.stop.Fault.{Fault}
 use Rattle.ob_base.specs.declared.stop.Fault.TheVariants.{OutOfMemory, Store, Reopen, Input, Output}
@@ -7,7 +7,8 @@ use Rattle.ob_base.specs.declared.stop.Stop.{Stop}
 use Rattle.ob_base.specs.declared.stop.Stop.TheVariants as stops
 use Rattle.ob_base.specs.declared.stop.Refusal.{Refusal}
 use Rattle.ob_base.specs.declared.stop.Refusal.TheVariants.{Full}
-use Rattle.ob_csv.specs.Rows.{Fields, rows_of}
+use Rattle.ob_csv.specs.Rows.{Fields, TakesRow, rows_of}
+use Rattle.ob_csv.specs.RowReading.{rows_left}
 use Rattle.ob_stream.specs.Retrying.{TriesAnew}
 use Rattle.ob_stream.specs.Streams.{Passes}
 use Rattle.ob_stream.specs.Watching.{HasJustFailed, watched_bytes}
@@ -24,6 +25,7 @@ use Rattle.ob_import.specs.Imports.{Import, Imports, after_header}
 use Rattle.ob_import.specs.Reports.{AreRows, HasCause, IsStoreFault, import_as, no_book}
 use Rattle.ob_import.specs.declared.report.ImportReport.{ImportReport}
 use Rattle.ob_import.specs.declared.report.ImportFault.{ImportFault}
+use Rattle.ob_import.specs.declared.whole.RowLines.{RowLines}
 
 -- ---- the rows of a text as the lines of a list
 -- what the row of this number says, where a text may have so many
@@ -38,12 +40,36 @@ AreLines number (row ∷ rows) (Err refusal ∷ list) = IsLine number row (Err r
 AreLines number [] (line ∷ list) = ⊥
 AreLines number (row ∷ rows) [] = ⊥
 
--- the same of the rows after a header, where there is one
-abbrev pub AreLinesOf : Option (List Fields) → Option (List Line) → Type 0
-AreLinesOf None None = ⊤
-AreLinesOf (Some rows) (Some list) = AreLines 1 rows list
-AreLinesOf None (Some list) = ⊥
-AreLinesOf (Some rows) None = ⊥
+module _ {R : Type 0} (remaining : R → Option (List ℕ)) where
+  -- the next row was read, and says this line
+  pub record GivesRow (was : RowLines R) (line : Line) (is : RowLines R) : Type 0 where
+    pub row : Fields
+    pub going : was.ended ≡ false
+    pub few : was.given ≤ 1_000_000
+    pub takes : TakesRow (rows_left remaining was.rows) (rows_left remaining is.rows) true row
+    pub says : IsLine (was.given + 1) row line
+    pub counted : is.given ≡ was.given + 1
+    pub ended : is.ended ≡ is_err line
+
+  -- the last line said no command, more were given than a text may have, or no row is left
+  pub record GivesNone (was is : RowLines R) : Type 0 where
+    pub row : Fields
+    pub why : (was.ended ≡ true)
+        ⊎ ((1_000_000 < was.given) ⊎ TakesRow (rows_left remaining was.rows) (rows_left remaining is.rows) false row)
+    pub counted : is.given ≡ was.given
+
+  -- what taking a line makes of the rows of a text
+  abbrev pub GivesLine : RowLines R → Result (Option Line) Fault → RowLines R → Type 0
+  GivesLine was (Ok (Some line)) is = GivesRow was line is
+  GivesLine was (Ok None) is = GivesNone was is
+  GivesLine was (Err fault) is = is.given ≡ was.given
+
+  -- the rows after a header are to be given, where there is one
+  abbrev pub GivesBody : Option (List Fields) → Option (RowLines R) → Type 0
+  GivesBody None None = ⊤
+  GivesBody (Some rows) (Some lines) = (rows_left remaining lines.rows ≡ Some rows) × (lines.given ≡ 0) × (lines.ended ≡ false)
+  GivesBody None (Some lines) = ⊥
+  GivesBody (Some rows) None = ⊥
 
 -- the result of an import that nothing was added of, since the list stopped at this place
 abbrev pub IsStopOf : ℕ → Stop → Result ImportReport ImportFault → Type 0

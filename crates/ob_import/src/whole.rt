@@ -1,9 +1,8 @@
 //! The import of a whole text: all of its rows in one transaction, or none.
-ghost use Rattle.std.specs.Prelude.{◌≡◌, ◌≤◌, length, List, Some, option_map, IsSome, IfErr, IfOk, IfSome};
+ghost use Rattle.std.specs.Prelude.{◌≡◌, ◌≤◌, List, Some, option_map, IsSome, IfErr, IfOk};
 ghost use Rattle.ob_csv.specs.Rows.{Fields, rows_of};
-ghost use Rattle.ob_csv.specs.RowReading.{rows_left};
 ghost use Rattle.ob_import.specs.Imports.{after_header};
-ghost use Rattle.ob_import.specs.Whole.{AreLines, AreLinesOf, IsEndOf, IsLine, RunsWhole, WholeOf};
+ghost use Rattle.ob_import.specs.Whole.{GivesBody, IsEndOf, IsLine, RunsWhole, WholeOf};
 ghost use Rattle.ob_store.specs.Keepers.{book_of};
 
 use crate::acting::command_in;
@@ -14,7 +13,7 @@ use crate::text::{fault_without_book, lines_of};
 use ob_base::{Fault, Ref, Refusal, Stop};
 use ob_book::Command;
 use ob_csv::{MOST_BYTES, MOST_ROWS, Row, RowReader};
-use ob_store::{Alter, Halted, Keeper, Progress, Work};
+use ob_store::{Alter, Halted, Keeper, Lines, Progress, Work};
 use ob_stream::{Retries, Watched};
 use ob_sweep::Timeline;
 use std::alloc::Global;
@@ -64,85 +63,72 @@ fn import_lines<S: Alter, T: Timeline, P: Progress>(
 {
     // the first line is the header
     let total = lines_of(text.as_slice()).saturating_sub(1);
-    let lines = match lines_in(alloc, text) {
+    let mut lines = match lines_after(alloc, text.as_slice()) {
         Ok(Some(lines)) => lines,
         Ok(None) => return Ok(stopped_at(0, Refusal::BadField(0))),
         Err(fault) => return Err(nothing_added(fault)),
     };
     progress.begin(Work::Rows, total);
-    let run = keeper.act_all(&lines, progress);
+    let run = keeper.act_all(&mut lines, progress);
     progress.end();
-    end_of(run, lines.len())
+    end_of(run, lines.given)
 }
 
-/// Reads the rows of a text after its header as the lines of a list, and drops the text. None if it
-/// has no header.
-fn lines_in(
-    alloc: Global,
-    text: Vec<u8>,
-) -> Result<Option<Vec<Result<(Ref, Command), Refusal>>>, Fault>
-    ensures lines { IfOk result (λ found. AreLinesOf (after_header (rows_of text.items)) (option_map (λ lines. lines.items) found)) }
-    ensures few { IfOk result (λ found. IfSome found (λ lines. length lines.items ≤ 1_000_001)) }
+/// Reads the header of a text; the rows after it are then lines. None if it has no header.
+fn lines_after<R: Read + Drop>(alloc: Global, text: R) -> Result<Option<RowLines<R>>, Fault>
+    ensures body { (all : List Fields) → option_map rows_of (R.remaining text) ≡ Some all
+        → IfOk result (GivesBody R.remaining (after_header all)) }
     ensures faults { IfErr result (λ fault. fault ≡ Fault.OutOfMemory) }
 {
-    let mut rows = RowReader::new(alloc, text.as_slice());
-    read_lines(alloc, &mut rows)
-}
-
-/// Reads the rows after the header as the lines of a list, up to the first that says no command.
-/// None if the text has no header.
-fn read_lines<R: Read>(
-    alloc: Global,
-    rows: &mut RowReader<R>,
-) -> Result<Option<Vec<Result<(Ref, Command), Refusal>>>, Fault>
-    ensures lines { (all : List Fields) → rows_left R.remaining rows.old ≡ Some all
-        → IfOk result (λ found. AreLinesOf (after_header all) (option_map (λ lines. lines.items) found)) }
-    ensures few { IfOk result (λ found. IfSome found (λ lines. length lines.items ≤ 1_000_001)) }
-    ensures faults { IfErr result (λ fault. fault ≡ Fault.OutOfMemory) }
-{
+    let mut rows = RowReader::new(alloc, text);
     let mut row = Row::new(alloc);
-    let found = match take_row(rows, &mut row, true) {
+    let found = match take_row(&mut rows, &mut row, true) {
         Ok(found) => found,
         Err(fault) => return Err(fault),
     };
     if !found || !row.is_header() {
         return Ok(None);
     }
-    match read_body(alloc, rows) {
-        Ok(lines) => Ok(Some(lines)),
-        Err(fault) => Err(fault),
-    }
+    Ok(Some(RowLines {
+        rows,
+        row,
+        given: 0,
+        ended: false,
+    }))
 }
 
-/// Reads rows as the lines of a list, up to the first that says no command.
-fn read_body<R: Read>(
-    alloc: Global,
-    rows: &mut RowReader<R>,
-) -> Result<Vec<Result<(Ref, Command), Refusal>>, Fault>
-    ensures lines { (all : List Fields) → rows_left R.remaining rows.old ≡ Some all
-        → IfOk result (λ lines. AreLines 1 all lines.items) }
-    ensures few { IfOk result (λ lines. length lines.items ≤ 1_000_001) }
-    ensures faults { IfErr result (λ fault. fault ≡ Fault.OutOfMemory) }
-{
-    let mut lines = Vec::new(alloc);
-    let mut row = Row::new(alloc);
-    'text: for number in 1..MOST_ROWS + 2 {
-        match take_row(rows, &mut row, true) {
+/// The rows of a text after its header, each as a line of a list. Only one of them is held.
+#[derive(Drop)]
+struct RowLines<R> {
+    rows: RowReader<R>,
+    // The row that was read last.
+    row: Row,
+    // How many lines were given.
+    given: u32,
+    // Whether the last line said no command: none is given after it.
+    ended: bool,
+}
+
+impl<R: Read> Lines for RowLines<R> {
+    ghost use Rattle.ob_import.specs.Whole.{GivesLine};
+
+    ghost gives = { GivesLine R.remaining };
+
+    fn next(&mut self) -> Result<Option<Result<(Ref, Command), Refusal>>, Fault> {
+        // the line past the most that a text may have says no command
+        if self.ended || self.given > MOST_ROWS {
+            return Ok(None);
+        }
+        match take_row(&mut self.rows, &mut self.row, true) {
             Ok(true) => {}
-            Ok(false) => return Ok(lines),
+            Ok(false) => return Ok(None),
             Err(fault) => return Err(fault),
         }
-        let line = line_of(number, &row);
-        let goes_on = line.is_ok();
-        match lines.push(line) {
-            Ok(()) => {}
-            Err(_) => return Err(Fault::OutOfMemory),
-        }
-        if !goes_on {
-            return Ok(lines);
-        }
+        self.given += 1;
+        let line = line_of(self.given, &self.row);
+        self.ended = line.is_err();
+        Ok(Some(line))
     }
-    Ok(lines)
 }
 
 /// What the row of this number says, counted from 1.
@@ -157,7 +143,7 @@ fn line_of(number: u32, row: &Row) -> Result<(Ref, Command), Refusal>
 }
 
 /// The result of an import from that of its list of so many lines.
-fn end_of(run: Result<usize, Halted>, lines: usize) -> Result<ImportReport, ImportFault>
+fn end_of(run: Result<usize, Halted>, lines: u32) -> Result<ImportReport, ImportFault>
     requires few { lines ≤ 1_000_001 }
     requires added { IfOk run (λ added. added ≤ lines) }
     requires place { IfErr run (λ e. e.place ≤ lines) }
@@ -166,7 +152,7 @@ fn end_of(run: Result<usize, Halted>, lines: usize) -> Result<ImportReport, Impo
     match run {
         Ok(added) => Ok(ImportReport {
             added: added as u32,
-            again: (lines - added) as u32,
+            again: lines - added as u32,
             stopped: None,
         }),
         Err(halted) => match halted.stop {
