@@ -70,9 +70,9 @@ module _ {R : Type 0} (remaining : R → Option (List ℕ)) where
       let over : rows ≡ [] = elim end.why [
         | inl over ↦ absurd (true≢false (sym over ∙ going))
         | inr rest ↦ elim rest [
-            | inl past ↦ absurd (omega (arith, few, past))
-            | inr takes ↦ no_row (rows_left remaining was.rows) (rows_left remaining is.rows) rows end.row left takes
-          ]
+          | inl past ↦ absurd (omega (arith, few, past))
+          | inr takes ↦ no_row (rows_left remaining was.rows) (rows_left remaining is.rows) rows end.row left takes
+        ]
       ] in
       subst (λ r. AreLines (was.given + 1) r []) (sym over) tt
   given_all was last is rows (Ok said ∷ list) left going few all none =
