@@ -198,7 +198,8 @@ led_more first book done line lead ok =
 -- or refused
 led_stops : (first book : ActState) (done : List Line) (line : Line) (rest : List Line) (refused : Refusal) → LeadTo done first book → answer_to book line ≡ Err refused → StopAt first (done ++ line ∷ rest) (length done) refused
 led_stops first book done line rest refused lead is =
-    after_more first book 0 done (line ∷ rest) lead ∙ ap (λ r. goes_on r (0 + length done) (after_lines (after_line book line) (0 + length done + 1) rest)) is
+    subst (λ n. after_lines first 0 (done ++ line ∷ rest) ≡ Err (n, refused)) (let e : 0 + length done ≡ length done = omega arith in e)
+    (after_more first book 0 done (line ∷ rest) lead ∙ ap (λ r. goes_on r (0 + length done) (after_lines (after_line book line) (0 + length done + 1) rest)) is)
 
 -- a list with a line that says no command leads nowhere
 pub never_led : (first book : ActState) (place : ℕ) (done : List Line) (refused : Refusal) → after_lines first place (done ++ Err refused ∷ []) ≡ Ok book → ⊥

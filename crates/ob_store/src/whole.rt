@@ -215,21 +215,18 @@ fn act_lines<S: Alter, T: Timeline, L: Lines, P: Progress>(
                     added,
                 });
             }
-            Err(fault) => return Err(starved(count, fault)),
+            Err(fault) => {
+                return Err(Halted {
+                    place: count,
+                    stop: Stop::Fault(fault),
+                });
+            }
         }
     }
-    Err(starved(usize::MAX, Fault::OutOfMemory))
-}
-
-/// A list that was halted before the line of a place, since memory was refused.
-fn starved(place: usize, fault: Fault) -> Halted
-    ensures place { result.place ≡ place }
-    ensures stop { result.stop ≡ Stop.Fault fault }
-{
-    Halted {
-        place,
-        stop: Stop::Fault(fault),
-    }
+    Err(Halted {
+        place: usize::MAX,
+        stop: Stop::Fault(Fault::OutOfMemory),
+    })
 }
 
 /// Applies lines that are given one after another in one transaction, and commits it after the
@@ -254,7 +251,12 @@ pub(crate) fn act_all_on<S: Alter, T: Timeline, L: Lines, P: Progress>(
     let first = match lines.next() {
         Ok(Some(first)) => first,
         Ok(None) => return Ok(0),
-        Err(fault) => return Err(starved(0, fault)),
+        Err(fault) => {
+            return Err(Halted {
+                place: 0,
+                stop: Stop::Fault(fault),
+            });
+        }
     };
     // an open connection shows a complete database
     let _schema = conn.schema();

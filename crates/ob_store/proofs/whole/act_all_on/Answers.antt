@@ -17,7 +17,7 @@ use Rattle.ob_store.proofs.whole.act_all_on.Goals as goal
 pub returns-in-Ok-None-clause-over : goal.returns-in-Ok-None-clause-over
 returns-in-Ok-None-clause-over g c =
     let old = state g.S.Store c.args.conn.now in
-    over_none g.L.Lines.gives c.args.lines.now c.next.new.self _ c.in-Ok-None.ensures.given (record {
+    over_none g.L.Lines.gives c.args.lines.now c.next.new.self _ (rw c.in-Ok-None.field-0-is at c.in-Ok-None.ensures.given) (record {
       few = omega arith;
       within = tt;
       acts = λ clean b keeps same. acts_none g.S.Store c.args.conn.now c.args.book.now.state b [] refl keeps same;
@@ -41,7 +41,7 @@ returns-in-Err-act_lines-clause-over g c =
     let end = c.drop-tx.new.self.0 in
     let same_end : end ≡ c.conn-1.given.0 = search rules in
     let quiet : Silent old last = silent_begin g.S.Store h last (subst (λ x. Silent (state g.S.Store x) last) c.transaction-tx.ensures.begun c.act_lines.ensures.silent) in
-    over_first g.L.Lines.gives c.args.lines.now c.next.new.self c.act_lines.new.lines c.in-Ok-Some.first _ _ c.in-Ok-Some.ensures.given c.in-Err-act_lines.ensures.over (λ tail it.
+    over_first g.L.Lines.gives c.args.lines.now c.next.new.self c.act_lines.new.lines c.in-Ok-Some.first _ _ (rw c.in-Ok-Some.field-0-is at c.in-Ok-Some.ensures.given) c.in-Err-act_lines.ensures.over (λ tail it.
     let list = c.in-Ok-Some.first ∷ tail in
     record {
       few = tt;
@@ -87,9 +87,9 @@ returns-in-Ok-commit-clause-over g c =
     let end = c.commit.new.self.0 in
     let same_end : end ≡ c.conn-2-1.given.0 = search rules in
     let quiet : Silent old last = silent_begin g.S.Store h last (subst (λ x. Silent (state g.S.Store x) last) c.transaction-tx.ensures.begun c.act_lines.ensures.silent) in
-    let added = c.in-Ok-act_lines.applied.added in
+    let added = c.in-Ok.applied.added in
     let memory = c.act_lines.new.book.state in
-    over_first g.L.Lines.gives c.args.lines.now c.next.new.self c.act_lines.new.lines c.in-Ok-Some.first _ _ c.in-Ok-Some.ensures.given c.in-Ok-act_lines.ensures.over (λ tail it.
+    over_first g.L.Lines.gives c.args.lines.now c.next.new.self c.act_lines.new.lines c.in-Ok-Some.first _ _ (rw c.in-Ok-Some.field-0-is at c.in-Ok-Some.ensures.given) c.in-Ok.ensures.over (λ tail it.
     let list = c.in-Ok-Some.first ∷ tail in
     record {
       few = omega (arith, it.few.0, it.few.1);
@@ -98,7 +98,7 @@ returns-in-Ok-commit-clause-over g c =
           let done : HasCleanDisk (state g.S.Store end) = subst (λ x. HasCleanDisk (state g.S.Store x)) (sym same_end) clean in
           let late : HasCleanDisk last = omega (arith, c.commit.ensures.survives.clean, done) in
           let first : HasCleanDisk old = omega (arith, quiet.survives.clean, late) in
-          let live = (rw c.transaction-tx.ensures.begun at c.in-Ok-act_lines.ensures.live) late in
+          let live = (rw c.transaction-tx.ensures.begun at c.in-Ok.ensures.live) late in
           let led = (rw c.transaction-tx.ensures.begun at it.tries) late b (shows_begun old b first keeps) same in
           subst (λ x. ActsAll g.S.Store x memory b list (Ok added)) same_end (
             led.book,
@@ -115,7 +115,7 @@ returns-in-Ok-commit-clause-over g c =
           (survives_then old last (state g.S.Store end) _ _ commits (λ _ db none. absurd none) (λ clean db is b keeps same.
           let late : HasCleanDisk last = omega (arith, c.commit.ensures.survives.clean, clean) in
           let first : HasCleanDisk old = omega (arith, quiet.survives.clean, late) in
-          let live = (rw c.transaction-tx.ensures.begun at c.in-Ok-act_lines.ensures.live) late in
+          let live = (rw c.transaction-tx.ensures.begun at c.in-Ok.ensures.live) late in
           let led = (rw c.transaction-tx.ensures.begun at it.tries) late b (shows_begun old b first keeps) same in
           (led.book, led.lead, left_last old last (state g.S.Store end) memory b list added led live c.schema-schema.ensures.live keeps quiet c.commit.ensures.survives clean db is))
           quiet.survives c.commit.ensures.survives);
@@ -137,11 +137,11 @@ returns-in-Ok-commit-clause-numbered g c b keeps same numbers =
     subst (λ x. KeepsNumbers (state g.S.Store x)) same_end (λ clean trees may.
     let late : HasCleanDisk last = omega (arith, c.commit.ensures.survives.clean, clean) in
     let first : HasCleanDisk old = omega (arith, quiet.survives.clean, late) in
-    let live = (rw c.transaction-tx.ensures.begun at c.in-Ok-act_lines.ensures.live) late in
-    let lines = c.in-Ok-act_lines.ensures.over in
+    let live = (rw c.transaction-tx.ensures.begun at c.in-Ok.ensures.live) late in
+    let lines = c.in-Ok.ensures.over in
     let list = c.in-Ok-Some.first ∷ lines.taken in
     let it = (rw c.transaction-tx.ensures.begun at (lines.holds lines.taken (begins_all lines.taken lines.ended)).tries) late b (shows_begun old b first keeps) same in
-    numbers_last old last (state g.S.Store end) c.act_lines.new.book.state b list c.in-Ok-act_lines.applied.added it live c.schema-schema.ensures.live keeps quiet c.commit.ensures.survives numbers
+    numbers_last old last (state g.S.Store end) c.act_lines.new.book.state b list c.in-Ok.applied.added it live c.schema-schema.ensures.live keeps quiet c.commit.ensures.survives numbers
     (λ live. g.met.S.Store.stays h.store live) clean trees may)
 
 -- ---- the commit failed
@@ -153,9 +153,9 @@ returns-in-Err-commit-clause-over g c =
     let end = c.commit.new.self.0 in
     let same_end : end ≡ c.conn-2-1.given.0 = search rules in
     let quiet : Silent old last = silent_begin g.S.Store h last (subst (λ x. Silent (state g.S.Store x) last) c.transaction-tx.ensures.begun c.act_lines.ensures.silent) in
-    let added = c.in-Ok-act_lines.applied.added in
+    let added = c.in-Ok.applied.added in
     let memory = c.act_lines.new.book.state in
-    over_first g.L.Lines.gives c.args.lines.now c.next.new.self c.act_lines.new.lines c.in-Ok-Some.first _ _ c.in-Ok-Some.ensures.given c.in-Ok-act_lines.ensures.over (λ tail it.
+    over_first g.L.Lines.gives c.args.lines.now c.next.new.self c.act_lines.new.lines c.in-Ok-Some.first _ _ (rw c.in-Ok-Some.field-0-is at c.in-Ok-Some.ensures.given) c.in-Ok.ensures.over (λ tail it.
     let list = c.in-Ok-Some.first ∷ tail in
     record {
       few = tt;
@@ -164,7 +164,7 @@ returns-in-Err-commit-clause-over g c =
           let done : HasCleanDisk (state g.S.Store end) = subst (λ x. HasCleanDisk (state g.S.Store x)) (sym same_end) clean in
           let late : HasCleanDisk last = omega (arith, c.commit.ensures.survives.clean, done) in
           let first : HasCleanDisk old = omega (arith, quiet.survives.clean, late) in
-          let live = (rw c.transaction-tx.ensures.begun at c.in-Ok-act_lines.ensures.live) late in
+          let live = (rw c.transaction-tx.ensures.begun at c.in-Ok.ensures.live) late in
           let led = (rw c.transaction-tx.ensures.begun at it.tries) late b (shows_begun old b first keeps) same in
           subst (λ x. KeepsFirstOrLast (state g.S.Store x) b list) same_end
           (kept_either old last (state g.S.Store end) memory b list added led live c.schema-schema.ensures.live keeps quiet c.commit.ensures.survives _ c.in-Err-commit.ensures.err);
@@ -172,7 +172,7 @@ returns-in-Err-commit-clause-over g c =
           let done : HasCleanDisk (state g.S.Store end) = subst (λ x. HasCleanDisk (state g.S.Store x)) (sym same_end) clean in
           let late : HasCleanDisk last = omega (arith, c.commit.ensures.survives.clean, done) in
           let first : HasCleanDisk old = omega (arith, quiet.survives.clean, late) in
-          let live = (rw c.transaction-tx.ensures.begun at c.in-Ok-act_lines.ensures.live) late in
+          let live = (rw c.transaction-tx.ensures.begun at c.in-Ok.ensures.live) late in
           let led = (rw c.transaction-tx.ensures.begun at it.tries) late b (shows_begun old b first keeps) same in
           subst (λ x. HasFailed old (state g.S.Store x) ⊎ ((b2 : ActState) × LeadTo list b b2 × WasUndone g.S.Store (state g.S.Store x) (tables_of b2))) same_end
           (commit_cause g.S.Store old c.act_lines.new.tx.conn.now (state g.S.Store end) memory b list added led live keeps quiet c.commit.ensures.survives _ done (c.in-Err-commit.ensures.err done));
@@ -182,7 +182,7 @@ returns-in-Err-commit-clause-over g c =
           (survives_then old last (state g.S.Store end) _ _ commits (λ _ db none. absurd none) (λ clean db is b keeps same.
           let late : HasCleanDisk last = omega (arith, c.commit.ensures.survives.clean, clean) in
           let first : HasCleanDisk old = omega (arith, quiet.survives.clean, late) in
-          let live = (rw c.transaction-tx.ensures.begun at c.in-Ok-act_lines.ensures.live) late in
+          let live = (rw c.transaction-tx.ensures.begun at c.in-Ok.ensures.live) late in
           let led = (rw c.transaction-tx.ensures.begun at it.tries) late b (shows_begun old b first keeps) same in
           (led.book, led.lead, left_last old last (state g.S.Store end) memory b list added led live c.schema-schema.ensures.live keeps quiet c.commit.ensures.survives clean db is))
           quiet.survives c.commit.ensures.survives);
@@ -200,9 +200,9 @@ returns-in-Err-commit-clause-numbered g c b keeps same numbers =
     subst (λ x. KeepsNumbers (state g.S.Store x)) same_end (λ clean trees may.
     let late : HasCleanDisk last = omega (arith, c.commit.ensures.survives.clean, clean) in
     let first : HasCleanDisk old = omega (arith, quiet.survives.clean, late) in
-    let live = (rw c.transaction-tx.ensures.begun at c.in-Ok-act_lines.ensures.live) late in
-    let lines = c.in-Ok-act_lines.ensures.over in
+    let live = (rw c.transaction-tx.ensures.begun at c.in-Ok.ensures.live) late in
+    let lines = c.in-Ok.ensures.over in
     let list = c.in-Ok-Some.first ∷ lines.taken in
     let it = (rw c.transaction-tx.ensures.begun at (lines.holds lines.taken (begins_all lines.taken lines.ended)).tries) late b (shows_begun old b first keeps) same in
-    numbers_last old last (state g.S.Store end) c.act_lines.new.book.state b list c.in-Ok-act_lines.applied.added it live c.schema-schema.ensures.live keeps quiet c.commit.ensures.survives numbers
+    numbers_last old last (state g.S.Store end) c.act_lines.new.book.state b list c.in-Ok.applied.added it live c.schema-schema.ensures.live keeps quiet c.commit.ensures.survives numbers
     (λ live. g.met.S.Store.stays h.store live) clean trees may)

@@ -26,10 +26,10 @@ each-preserved g c =
     let was = c.each.invariant in (
       step.same_reference ∙ was.0,
       silent_then old mid new was.1 step.silent,
-      (let e : c.each.added + c.count_of.result ≤ c.each.place + 1 = omega (arith, was.2, c.count_of.ensures.few) in e),
+      (let e : c.each.added + c.count_of-added.result ≤ c.each.place + 1 = omega (arith, was.2, c.count_of-added.ensures.few) in e),
       c.in-Ok.ensures.inside,
       turn_next g.L.Lines.gives g.T.Timeline.bound old mid new c.args.lines.now c.each.lines c.args.first c.each.line c.args.book.now.state c.each.book.state c.act_line.new.book.state c.args.book.now.searches c.each.book.searches c.act_line.new.book.searches c.each.place c.each.added was.4
-          was.1 step.silent was.3 c.in-Ok.is_new c.count_of.result c.count_of.ensures.value c.in-Ok.ensures.tries c.in-Ok.ensures.searched c.next.new.self c.in-Ok-Some.next c.in-Ok-Some.ensures.given,
+          was.1 step.silent was.3 c.in-Ok.is_new c.count_of-added.result c.count_of-added.ensures.value c.in-Ok.ensures.tries c.in-Ok.ensures.searched c.next.new.self c.in-Ok-Some.next (rw c.in-Ok-Some.field-0-is at c.in-Ok-Some.ensures.given),
     )
 
 -- ---- a line was refused, memory was or the store failed
@@ -83,8 +83,8 @@ returns-in-Ok-None-clause-over g c =
     let new = state g.S.Store c.act_line.new.tx.conn.now in
     let was = c.each.invariant in
     turn_last g.L.Lines.gives g.T.Timeline.bound old mid new c.args.lines.now c.each.lines c.args.first c.each.line c.args.book.now.state c.each.book.state c.act_line.new.book.state c.args.book.now.searches c.each.book.searches c.act_line.new.book.searches c.each.place c.each.added was.4
-    was.1 c.act_line.ensures.silent was.3 c.in-Ok.is_new c.count_of.result c.count_of.ensures.value c.in-Ok.ensures.tries c.in-Ok.ensures.searched c.next.new.self c.in-Ok-None.ensures.given
-    (let e : c.each.added + c.count_of.result ≤ c.each.place + 1 = omega (arith, was.2, c.count_of.ensures.few) in e)
+    was.1 c.act_line.ensures.silent was.3 c.in-Ok.is_new c.count_of-added.result c.count_of-added.ensures.value c.in-Ok.ensures.tries c.in-Ok.ensures.searched c.next.new.self (rw c.in-Ok-None.field-0-is at c.in-Ok-None.ensures.given)
+    (let e : c.each.added + c.count_of-added.result ≤ c.each.place + 1 = omega (arith, was.2, c.count_of-added.ensures.few) in e)
 
 -- ---- memory was refused for the next one
 pub returns-in-Err-next-clause-same_reference : goal.returns-in-Err-next-clause-same_reference
