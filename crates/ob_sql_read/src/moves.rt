@@ -28,31 +28,22 @@ use crate::layout::Layout;
 use crate::leading::decide_noting;
 use crate::progress::{Progress, Work};
 use crate::query::prepare;
-use crate::rows::{advance, is_over, is_row};
+use crate::rows::{advance, is_over};
 use ob_base::Stop;
 use ob_book::Book;
 use ob_command::Command;
 use ob_post::Moved;
-use ob_sql_rows::{Table, Version, int, select_of, signed_value, stop_of};
+use ob_sql_rows::{Table, Version, select_of, stop_of};
+use ob_sql_write::read_moved;
 use ob_sweep::Timeline;
 use ob_upgrade::fits_version_one;
 use sqlite::{Alter, Connection, Row, Rows};
 
 /// Whether the row is that of a change of an amount by the command of this number.
-fn is_moved(row: &Row, no: u32, it: &Moved) -> bool
-    ensures { IsTrue result ↔ (row.now ≡ moved_row no (dim_number it.now.dim) it.now.key
-        it.now.delta) }
+fn is_moved(row: &Row, no: u32, it: Moved) -> bool
+    ensures { IsTrue result ↔ (row.now ≡ moved_row no (dim_number it.dim) it.key it.delta) }
 {
-    let Moved { dim, key, delta } = *it;
-    is_row(
-        row,
-        &[
-            int(no),
-            int(u32::from(dim.number())),
-            int(u32::from(key)),
-            signed_value(delta),
-        ],
-    )
+    read_moved(row) == Some((no, it))
 }
 
 /// Whether the next row is that of a change of an amount by the command of this number.
@@ -80,7 +71,7 @@ fn next_is<S: Alter>(rows: &mut Rows<'_, S>, no: u32, it: &Moved) -> Result<bool
 {
     advance(rows)?;
     match rows.get() {
-        Some(row) => Ok(is_moved(row, no, it)),
+        Some(row) => Ok(is_moved(row, no, *it)),
         None => Ok(false),
     }
 }

@@ -1,11 +1,10 @@
-//! Reads the rows of a query one after another and compares them with expected values.
-ghost use Rattle.std.specs.Prelude.{◌≡◌, ◌↔◌, ℕ, false, List, [], map, IsTrue, IfOk, IfErr, OnOk};
+//! Reads the rows of a query one after another.
+ghost use Rattle.std.specs.Prelude.{◌≡◌, ℕ, false, List, [], IfOk, IfErr, OnOk};
 ghost use Rattle.sqlite.specs.Order.{Row as ARow};
 ghost use Rattle.sqlite.specs.Held.{state};
 ghost use Rattle.sqlite.specs.Schema.{Schema};
 ghost use Rattle.sqlite.specs.Given.{Advances, HasGiven, row_if};
 ghost use Rattle.sqlite.specs.State.{HasCleanDisk, IsUnchanged, Survives};
-ghost use Rattle.sqlite_value.specs.Value.{owned};
 ghost use Rattle.ob_sql_rows.specs.declared.version.Version.{Version};
 ghost use Rattle.ob_sql_rows.specs.Rows.{Tables};
 ghost use Rattle.ob_sql_rows.specs.Queries.{IsAlwaysAnswered};
@@ -15,27 +14,7 @@ ghost use Rattle.ob_sql_read.specs.Listing.{Listing, IsListingOver, Ends};
 
 use ob_base::Stop;
 use ob_sql_rows::stop_of;
-use sqlite::{Alter, Row, Rows};
-use sqlite_value::order::is_same;
-use sqlite_value::value::ValueRef;
-
-/// Whether the row has these values.
-pub(crate) fn is_row(row: &Row, values: &[ValueRef<'_>]) -> bool
-    ensures { IsTrue result ↔ (row.now ≡ map owned values.now) }
-{
-    if row.column_count() != values.len() {
-        return false;
-    }
-    'columns: for at in 0..values.len() {
-        let Ok(value) = row.get_ref(at) else {
-            return false;
-        };
-        if !is_same(value, values[at]) {
-            return false;
-        }
-    }
-    true
-}
+use sqlite::{Alter, Rows};
 
 /// Moves to the next row, or past the last.
 pub(crate) fn advance<S: Alter>(rows: &mut Rows<'_, S>) -> Result<(), Stop>

@@ -1,6 +1,6 @@
 -- A look at rows inside a transaction leaves it open.
 use Rattle.std.proofs.Common.{◌≡◌, ℕ, List, Option, Some, None, inr}
-use Rattle.std.specs.Prelude.{Result, Ok, Err, OnOk, IfErr}
+use Rattle.std.specs.Prelude.{Result, Ok, Err, IfErr}
 use Rattle.std.specs.Borrow.{MutBor}
 use Rattle.sqlite_trees.specs.declared.store.Store.{Ghosts}
 use Rattle.sqlite.specs.Clock.{timed}

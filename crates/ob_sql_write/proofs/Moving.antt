@@ -10,26 +10,15 @@ use Rattle.std.proofs.lemmas.List.Sorted.{All-permutation, IsPermutation-sym, Is
 use Rattle.sqlite_value.specs.Keys.{rising}
 use Rattle.sqlite_value.proofs.OrderLemmas.{value_cmp-Int}
 use Rattle.sqlite_sql.proofs.QueryLemmas.{key_cmp_total}
-use Rattle.sqlite.specs.Order.{Row, column}
-use Rattle.sqlite.specs.declared.types.Value.TheVariants.{Int}
-use Rattle.ob_post.specs.declared.Dim.{Dim}
-use Rattle.ob_post.specs.declared.Dim.TheVariants.{Cause, Feeder, Day}
+use Rattle.sqlite.specs.Order.{Row}
 use Rattle.ob_post.specs.declared.Moved.{Moved}
 use Rattle.ob_post.specs.Keys.{dim_number}
 use Rattle.ob_post.specs.Moved.{IsBefore, AreInOrder}
 use Rattle.ob_post.proofs.Deltas.{tail_in_order}
-use Rattle.ob_sql_rows.specs.Rows.{Columns, number, is_key}
+use Rattle.ob_post.proofs.Keying.{same_dim}
+use Rattle.ob_sql_rows.specs.Rows.{Columns, is_key}
 use Rattle.ob_sql_write.specs.Stored.{HaveSmallKeys, IsMoveOf, row_of, rows_of, by_dimension_and_key, AreMovesIn}
 use Rattle.ob_sql_write.proofs.Same.{same_when_sorted}
-
--- a row of four columns, of which each is known
-pub is_move : (row : Columns) (id : ℕ) (m : Moved) → length row ≡ 4 → column row 0 ≡ number id → column row 1 ≡ number (dim_number m.dim) → column row 2 ≡ number m.key → column row 3 ≡ Int m.delta → row ≡ row_of id m
-is_move [] id m long first second third fourth = absurd (omega arith)
-is_move (a ∷ []) id m long first second third fourth = absurd (omega arith)
-is_move (a ∷ b ∷ []) id m long first second third fourth = absurd (omega arith)
-is_move (a ∷ b ∷ c ∷ []) id m long first second third fourth = absurd (omega arith)
-is_move (a ∷ b ∷ c ∷ d ∷ []) id m long first second third fourth = rw (first, second, third, fourth)
-is_move (a ∷ b ∷ c ∷ d ∷ e ∷ more) id m long first second third fourth = absurd (omega arith)
 
 -- one row more
 pub one_more : (id : ℕ) (rows : List Row) (moves : List Moved) (i : ℕ) (row : Row) (m : Moved) → i < length rows → row ≡ get_or rows i row → row ≡ row_of id m → take i rows ≡ rows_of id moves → take (i + 1) rows ≡ rows_of id (moves ++ m ∷ [])
@@ -70,17 +59,6 @@ rise id (m ∷ ms) order =
     (all_less id m ms (recursion_from_All (IsBefore m) ms (λ i d low. order 0 (suc i) d (omega arith) (omega (arith, low)))), rise id ms (tail_in_order m ms order))
 
 -- ---- the rows tell the moves
-same_dim : (d e : Dim) → dim_number d ≡ dim_number e → d ≡ e
-same_dim Cause Cause is = refl
-same_dim Cause Feeder is = absurd (omega arith)
-same_dim Cause Day is = absurd (omega arith)
-same_dim Feeder Cause is = absurd (omega arith)
-same_dim Feeder Feeder is = refl
-same_dim Feeder Day is = absurd (omega arith)
-same_dim Day Cause is = absurd (omega arith)
-same_dim Day Feeder is = absurd (omega arith)
-same_dim Day Day is = refl
-
 same_move : (id : ℕ) (l m : Moved) → row_of id l ≡ row_of id m → l ≡ m
 same_move id l m is =
     let numbers : dim_number l.dim ≡ dim_number m.dim = cc in

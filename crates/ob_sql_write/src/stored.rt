@@ -1,24 +1,21 @@
 //! Reads the changes of amounts that a stored command made.
-ghost use Rattle.std.specs.Prelude.{◌≡◌, ◌<◌, ◌^◌, ℕ, false, List, All, length, IsPermutation, filter, IsOk, IfOk, IfErr};
+ghost use Rattle.std.specs.Prelude.{◌≡◌, false, List, All, IsPermutation, filter, IsOk, IfOk, IfErr};
 ghost use Rattle.sqlite.specs.Held.{state};
 ghost use Rattle.sqlite.specs.State.{HasCleanDisk, Survives};
-ghost use Rattle.sqlite.specs.Order.{column};
-ghost use Rattle.ob_post.specs.Keys.{dim_number};
 ghost use Rattle.ob_post.specs.Moved.{AreInOrder};
 ghost use Rattle.ob_base.specs.Stop.{out_of_memory};
-ghost use Rattle.ob_post.specs.declared.Dim.{Dim as ADim};
 ghost use Rattle.ob_post.specs.declared.Moved.{Moved as AMoved};
 ghost use Rattle.ob_sql_rows.specs.Schema.{book_schema};
 ghost use Rattle.ob_sql_rows.specs.Steps.{HasFaultCause, Reads, IsStoreFault};
-ghost use Rattle.ob_sql_rows.specs.Rows.{Tables, number, is_key};
+ghost use Rattle.ob_sql_rows.specs.Rows.{Tables, is_key};
 ghost use Rattle.ob_sql_rows.specs.declared.table.Table.{Table as ATable};
 ghost use Rattle.ob_sql_write.specs.Keeps.{Keeps};
 ghost use Rattle.ob_sql_write.specs.Known.{store_fault};
 ghost use Rattle.ob_sql_write.specs.Stored.{FindsMoves, AreMovesIn, HaveSmallKeys, IsMoveOf, row_of, rows_of};
 
-use crate::columns::{number_at, signed_at};
+use crate::moved_row::read_moved;
 use ob_base::{Fault, Stop};
-use ob_post::{Dim, Moved};
+use ob_post::Moved;
 use ob_sql_rows::stop_of;
 use sqlite::{Alter, Connection, Row, Transaction};
 use sqlite_value::value::ValueRef;
@@ -109,40 +106,8 @@ fn read_move(row: &Row, no: u32) -> Result<Moved, Stop>
     ensures fault { IfErr result (λ stop. stop ≡ store_fault) }
     ensures readable { IsMoveOf no row.now → IsOk result }
 {
-    let its_no = number_at(row, 0)?;
-    let dim = dim_at(row, 1)?;
-    let key = key_at(row, 2)?;
-    let delta = signed_at(row, 3)?;
-    if row.column_count() != 4 || its_no != no {
-        return Err(Stop::Fault(Fault::Store));
-    }
-    Ok(Moved { dim, key, delta })
-}
-
-/// Returns the dimension in a column.
-fn dim_at(row: &Row, place: usize) -> Result<Dim, Stop>
-    ensures value { IfOk result (λ dim. column row.now place ≡ number (dim_number dim)) }
-    ensures fault { IfErr result (λ stop. stop ≡ store_fault) }
-    ensures readable { (dim : ADim) → place < length row.now
-        → column row.now place ≡ number (dim_number dim) → IsOk result }
-{
-    match number_at(row, place)? {
-        1 => Ok(Dim::Cause),
-        2 => Ok(Dim::Feeder),
-        3 => Ok(Dim::Day),
+    match read_moved(row) {
+        Some((its_no, it)) if its_no == no => Ok(it),
         _ => Err(Stop::Fault(Fault::Store)),
-    }
-}
-
-/// Returns the key in a column.
-fn key_at(row: &Row, place: usize) -> Result<u16, Stop>
-    ensures value { IfOk result (λ key. column row.now place ≡ number key) }
-    ensures fault { IfErr result (λ stop. stop ≡ store_fault) }
-    ensures readable { (key : ℕ) → place < length row.now → key < 2 ^ 16
-        → column row.now place ≡ number key → IsOk result }
-{
-    match u16::try_from(number_at(row, place)?) {
-        Ok(key) => Ok(key),
-        Err(_) => Err(Stop::Fault(Fault::Store)),
     }
 }

@@ -1,30 +1,26 @@
 //! Exports the changes of amounts that accepted commands made, row by row.
-ghost use Rattle.std.specs.Prelude.{◌≡◌, ◌<◌, false, ℤ, List, [], length, map, IsSome, IsTrue, IfOk, IfErr, IfSome, OnOk};
-ghost use Rattle.sqlite.specs.Order.{Row as ARow, column};
+ghost use Rattle.std.specs.Prelude.{◌≡◌, false, List, [], map, IsTrue, IfOk, IfErr, OnOk};
+ghost use Rattle.sqlite.specs.Order.{Row as ARow};
 ghost use Rattle.sqlite.specs.Held.{state};
-ghost use Rattle.sqlite.specs.declared.types.Value.TheVariants.{Int};
 ghost use Rattle.sqlite.specs.Given.{Advances, HasGiven, row_if};
 ghost use Rattle.sqlite.specs.State.{HasCleanDisk, IsUnchanged, Survives};
-ghost use Rattle.ob_post.specs.Keys.{dim_number};
-ghost use Rattle.ob_post.specs.declared.Dim.{Dim as ADim};
-ghost use Rattle.ob_post.specs.declared.Moved.{Moved as AMoved};
 ghost use Rattle.ob_sql_rows.specs.Schema.{book_schema};
-ghost use Rattle.ob_sql_rows.specs.Rows.{Tables, number};
+ghost use Rattle.ob_sql_rows.specs.Rows.{Tables};
 ghost use Rattle.ob_sql_rows.specs.Steps.{HasFaultCause, IsStoreFault};
 ghost use Rattle.ob_sql_write.specs.Keeps.{Keeps};
 ghost use Rattle.ob_book.specs.Acts.{ActState};
 ghost use Rattle.ob_sql_read.specs.Moves.{moved_listing};
 ghost use Rattle.ob_store.specs.Keeping.{KeepsBook};
-ghost use Rattle.ob_store.specs.MovingOut.{AreFewMoves, ComesNext, Hands, HandsOut, HasHaltCause, IsMoveRow, MovesAreFew, MovesAreRows, Numbered, row_of_move};
+ghost use Rattle.ob_store.specs.MovingOut.{AreFewMoves, ComesNext, Hands, HandsOut, HasHaltCause, MovesAreFew, MovesAreRows, Numbered, row_of_move};
 
 use ob_base::{Fault, Stop};
 use ob_book::next_law;
+use ob_post::Moved;
 use ob_post::laws::move_laws;
-use ob_post::{Dim, Moved};
 use ob_record::naming_law;
 use ob_sql_rows::stop_of;
-use sqlite::{Alter, Connection, Row, Rows};
-use sqlite_value::value::ValueRef;
+use ob_sql_write::read_moved;
+use sqlite::{Alter, Connection, Rows};
 
 /// Receives the changes of amounts that commands made, one after another.
 pub trait MoveSink {
@@ -61,45 +57,6 @@ pub(crate) enum Halt {
     Sink(Fault),
     /// An allocation failed, or the store failed.
     Store(Stop),
-}
-
-/// Returns the number in a column.
-fn int_at(row: &Row, at: usize) -> Option<i64>
-    ensures value { IfSome result (λ n. column row.now at ≡ Int n) }
-    ensures readable { (n : ℤ) → at < length row.now → column row.now at ≡ Int n → IsSome result }
-{
-    match row.get_ref(at) {
-        Ok(ValueRef::Int(n)) => Some(n),
-        _ => None,
-    }
-}
-
-/// Returns the dimension of a number.
-fn dim_of(n: i64) -> Option<Dim>
-    ensures value { IfSome result (λ dim. Int n ≡ number (dim_number dim)) }
-    ensures readable { (dim : ADim) → Int n ≡ number (dim_number dim) → IsSome result }
-{
-    match n {
-        1 => Some(Dim::Cause),
-        2 => Some(Dim::Feeder),
-        3 => Some(Dim::Day),
-        _ => None,
-    }
-}
-
-/// Reads a change of an amount from a row, with the number of the command that made it.
-fn read_moved(row: &Row) -> Option<(u32, Moved)>
-    ensures told { IfSome result (λ it. row.now ≡ row_of_move it) }
-    ensures readable { IsMoveRow row.now → IsSome result }
-{
-    if row.column_count() != 4 {
-        return None;
-    }
-    let cmd = u32::try_from(int_at(row, 0)?).ok()?;
-    let dim = dim_of(int_at(row, 1)?)?;
-    let key = u16::try_from(int_at(row, 2)?).ok()?;
-    let delta = int_at(row, 3)?;
-    Some((cmd, Moved { dim, key, delta }))
 }
 
 /// Moves to the next row, or past the last.

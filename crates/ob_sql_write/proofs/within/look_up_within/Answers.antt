@@ -1,8 +1,5 @@
 use Rattle.std.proofs.lemmas.Result.{IfOk-weaker}
-use Rattle.std.proofs.Common.{Err, inr, sym, subst}
-use Rattle.std.specs.Prelude.{IfErr}
 use Rattle.sqlite.specs.Held.{state}
-use Rattle.ob_sql_rows.specs.Steps.{IsStoreFault}
 use Rattle.ob_sql_write.proofs.Failing.{answer_cause}
 use Rattle.ob_sql_write.proofs.Knowing.{one_any, under_any}
 use Rattle.ob_sql_write.proofs.Looking.{passed, told, told_fault}

@@ -5,7 +5,7 @@ use Rattle.ob_sql_rows.specs.Rules.{HasKey}
 use Rattle.ob_sql_rows.specs.Rows.{Tables}
 use Rattle.ob_sql_rows.specs.declared.table.Table.TheVariants.{Command}
 use Rattle.ob_sql_rows.proofs.Silence.{silent_then}
-use Rattle.ob_sql_write.specs.Acts.{LetsAct, NeedsRows, with_act, with_command}
+use Rattle.ob_sql_write.specs.Acts.{LetsAct, NeedsRows, with_command}
 use Rattle.ob_sql_write.specs.Changing.{NeedsRow}
 use Rattle.ob_sql_write.specs.Moves.{HasRows, LetsMoves, with_moves}
 use Rattle.ob_sql_write.proofs.Acting.{both_made, command_stopped, rows_stopped}

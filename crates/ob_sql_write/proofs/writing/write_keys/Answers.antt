@@ -30,7 +30,7 @@ loop-key-preserved g c =
           let early : HasCleanDisk mid = omega (arith, step.silent.survives.clean, late) in
           let was = c.loop-key.invariant.2 early live inside in
           next_key old mid new c.args.dim c.keys-keys.result.start c.loop-key.key (omega (arith, c.loop-key.auto.key)) was
-          (rw (c.from-dim_no.ensures, c.number.ensures, c.from-in-loop-key.ensures) at (c.in_ok-add_posting.ensures.makes late was.inside)),
+          (rw (c.from-dim_no.ensures, c.number.ensures, c.from.ensures) at (c.in_ok-add_posting.ensures.makes late was.inside)),
     )
 
 pub returns : goal.returns
@@ -60,7 +60,7 @@ returns-in_err-add_posting g c =
     let low : key < end = omega (arith, c.loop-key-test.true) in
     open_stopped g.S.Store c.args.tx.now.conn c.add_posting.new.tx.conn c.from_residual.result _ c.from_residual.ensures.1
     (stopped_after g.S.Store c.args.tx.now.conn c.loop-key.tx.conn c.add_posting.new.tx.conn _ c.loop-key.invariant.0 c.loop-key.invariant.1
-    (of_change g.S.Store _ _ _ (rw (c.from-dim_no.ensures, c.number.ensures, c.from-in-loop-key.ensures) at c.in_err-add_posting.ensures))
+    (of_change g.S.Store _ _ _ (rw (c.from-dim_no.ensures, c.number.ensures, c.from.ensures) at c.in_err-add_posting.ensures))
     (λ early live inside allowed.
     let was = c.loop-key.invariant.2 early live inside in (
       was.inside,

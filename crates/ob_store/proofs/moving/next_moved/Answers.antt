@@ -43,5 +43,5 @@ returns-in-None-read_moved-clause-cause g c clean b few keeps live front it =
     let at : row_if c.advance.new.rows.has_row new ≡ Some row = sym (rw c.in-Some.is at c.get.ensures) in
     let more = subst (GivesOn g.S.Store moved_listing.text [] old new (map row_of_move front)) at (c.in_ok-advance.ensures.goes clean moved_listing.text [] (map row_of_move front) it) in
     let is = row_of g.S.Store b new few (c.advance.ensures.kept (tables_of b) keeps.kept) clean (c.in_ok-advance.ensures.same clean).0.is_open front row more in
-    let some = c.read_moved.ensures.readable is in
-    absurd (true≢false (sym some ∙ ap is_some c.in-None-read_moved.is))
+    let some = c.read_moved.ensures.readable is.0.0 is.0.1 is.1.0 is.1.1 is.2 in
+    absurd (true≢false (sym (ap is_some some) ∙ ap is_some c.in-None-read_moved.is))
