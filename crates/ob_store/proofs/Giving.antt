@@ -134,20 +134,20 @@ module _ {L : Type 0} (gives : Gives L) where
           (searched_next bound old mid new book last before n m b it.done added line is_new turn (tries clean led.book now led.memory) (searched clean led.book now led.memory))
 
       -- and another one was taken
-      pub turn_next : (then : L) (next : Line) → gives is (Ok (Some next)) then → LinesTurn bound old new was then first next memory last before m (place + 1) (added + k)
-      turn_next then next one = record {
+      pub turn_next : (after : L) (next : Line) → gives is (Ok (Some next)) after → LinesTurn bound old new was after first next memory last before m (place + 1) (added + k)
+      turn_next after next one = record {
         done = it.done ++ line ∷ [];
         later = it.later ++ next ∷ [];
         parts = ap (λ l. l ++ next ∷ []) it.parts;
-        took = gives_more was is then it.later next it.took one;
+        took = gives_more was is after it.later next it.took one;
         count = let grown = length-append it.done (line ∷ []) in omega (arith, grown, it.count);
         tries = applied;
       }
 
       -- it was the last
-      pub turn_last : (then : L) → gives is (Ok None) then → added + k ≤ place + 1
-          → OverLines gives was then (λ list. TriesList bound old new memory last before m (first ∷ list) (Ok (record { lines = place + 1; added = added + k })))
-      turn_last then end few = record {
+      pub turn_last : (after : L) → gives is (Ok None) after → added + k ≤ place + 1
+          → OverLines gives was after (λ list. TriesList bound old new memory last before m (first ∷ list) (Ok (record { lines = place + 1; added = added + k })))
+      turn_last after end few = record {
         taken = it.later;
         ended = true;
         last = is;
@@ -187,9 +187,9 @@ module _ {L : Type 0} (gives : Gives L) where
     }
 
     -- memory was refused
-    pub turn_starved : (then : L) (at : ℕ) (fault : AFault) → at ≤ place + 1 → Ends gives is false then
-        → OverLines gives was then (λ list. TriesList bound old new memory last before m (first ∷ list) (Err (record { place = at; stop = Fault fault })))
-    turn_starved then at fault low ends = record {
+    pub turn_starved : (after : L) (at : ℕ) (fault : AFault) → at ≤ place + 1 → Ends gives is false after
+        → OverLines gives was after (λ list. TriesList bound old new memory last before m (first ∷ list) (Err (record { place = at; stop = Fault fault })))
+    turn_starved after at fault low ends = record {
       taken = it.later;
       ended = false;
       last = is;

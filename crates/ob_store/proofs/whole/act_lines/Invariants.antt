@@ -12,4 +12,4 @@ invariant-each g l =
     let now = state g.S.Store l.tx.conn.now in
     (l.tx.conn.ghost_name ≡ l.fn.tx.conn.ghost_name) × Silent old now × (l.added ≤ l.place)
     × (HasCleanDisk now → IsTrue now.in_transaction)
-    × LinesTurn g.L.Lines.gives g.T.Timeline.bound old now l.fn.lines l.lines l.first l.line l.fn.book.state l.book.state l.fn.book.searches l.book.searches l.place l.added
+    × LinesTurn g.L.Lines.gives g.T.Timeline.bound old now l.fn.lines l.lines l.fn.first l.line l.fn.book.state l.book.state l.fn.book.searches l.book.searches l.place l.added
