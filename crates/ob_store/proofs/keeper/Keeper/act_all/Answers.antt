@@ -1,15 +1,23 @@
-use Rattle.std.proofs.Common.{◌≡◌, arith, rules, Option, Some, None, Err, refl, sym, ap, subst, ◌∙◌}
+use Rattle.std.proofs.Common.{◌≡◌, arith, rules, true, false, Option, Some, None, Err, refl, sym, ap, subst, ◌∙◌}
 use Rattle.std.specs.Prelude.{⊤, IfSome}
 use Rattle.std.specs.Option.{option_map, option_map_or}
 use Rattle.sqlite.specs.Held.{Held, state}
+use Rattle.sqlite.specs.State.{HasCleanDisk}
+use Rattle.ob_base.specs.declared.stop.Stop.TheVariants.{Fault}
+use Rattle.ob_base.specs.declared.stop.Fault.TheVariants.{Reopen}
 use Rattle.ob_state.specs.State.{BookState}
 use Rattle.ob_state.specs.States.{BookValue}
 use Rattle.ob_book.specs.Acts.{ActState}
+use Rattle.ob_book.specs.Searches.{Bound}
 use Rattle.ob_sql_write.specs.Keeps.{KeepsNumbers}
+use Rattle.ob_store.specs.Calls.{ActsOnList}
+use Rattle.ob_store.specs.Keepers.{Ghosts, book_of}
 use Rattle.ob_store.specs.Keeping.{KeeperValue, KeepsBook, Ties}
+use Rattle.ob_store.specs.Lines.{Gives, OverLines}
 use Rattle.ob_store.specs.Whole.{HasListCause}
+use Rattle.ob_store.specs.declared.keeper.Keeper.{Keeper}
 use Rattle.ob_store.proofs.Committing.{acted_ok, commits_of, survives_same}
-use Rattle.ob_store.proofs.Giving.{over_any, over_each}
+use Rattle.ob_store.proofs.Giving.{begins_all, over_any, over_each}
 use Rattle.ob_store.proofs.Searching.{searches_of_some}
 use Rattle.ob_store.proofs.keeper.Keeper.act_all.Given as given
 use Rattle.ob_store.proofs.keeper.Keeper.act_all.Goals as goal
@@ -70,16 +78,48 @@ returns-in-Err-clause-over g c =
     })
 
 -- ---- there is no book
-pub returns-in_default-clause-over : goal.returns-in_default-clause-over
-returns-in_default-clause-over g c =
-    over_any g.L.Lines.gives c.args.lines.now _ (λ list. record {
+unopened : {S T L : Type 0} {g : Ghosts S} (gives : Gives L) (was : L) (old new : Keeper S T g) (bound : Bound) → new ≡ old → book_of old ≡ None → OverLines gives was was (λ list. ActsOnList old new bound list (Err (record { place = 0; stop = Fault Reopen })))
+unopened {S} {T} {L} {g} gives was old new bound same none =
+    over_any gives was _ (λ list. subst (λ (k : Keeper S T g). ActsOnList old k bound list (Err (record { place = 0; stop = Fault Reopen }))) (sym same) (record {
       few = tt;
       within = omega arith;
-      acted = λ clean b ties some. absurd (search rules);
-      cause = λ clean b ties some. absurd (search rules);
-      commits = survives_same (state g.S.Store c.args.self.now.parts.conn) _;
+      acted = λ clean b ties some. absurd (let e : false ≡ true = rw none at some in cc);
+      cause = λ clean b ties some. absurd (let e : false ≡ true = rw none at some in cc);
+      commits = survives_same (state g old.parts.conn) _;
       searched = λ clean b ties some. omega arith;
-    })
+    }))
+
+pub returns-in_default-clause-over : goal.returns-in_default-clause-over
+returns-in_default-clause-over g c = unopened g.L.Lines.gives c.args.lines.now c.args.self.now _ g.T.Timeline.bound (search rules) (search rules)
+
+-- ---- what is said of the store whatever the list is
+pub returns-in-Ok-clause-clean : goal.returns-in-Ok-clause-clean
+returns-in-Ok-clause-clean g c clean =
+    let conn_is : c.parts.inside.conn ≡ c.args.self.now.parts.conn = ap (λ (x : KeeperValue g.row.S.Denot). x.conn) c.parts.view_is in
+    let over = c.in-Ok.ensures.over in
+    let it = (over.holds over.taken (begins_all over.taken over.ended)).survives in
+    subst (λ (h : Held g.row.S.Denot). HasCleanDisk (state g.S.Store h)) conn_is (omega (arith, it.clean, clean))
+
+pub returns-in-Ok-clause-limit : goal.returns-in-Ok-clause-limit
+returns-in-Ok-clause-limit g c =
+    let conn_is : c.parts.inside.conn ≡ c.args.self.now.parts.conn = ap (λ (x : KeeperValue g.row.S.Denot). x.conn) c.parts.view_is in
+    let over = c.in-Ok.ensures.over in
+    let it = (over.holds over.taken (begins_all over.taken over.ended)).survives in
+    it.limit ∙ ap (λ (h : Held g.row.S.Denot). h.step_limit) conn_is
+
+pub returns-in-Err-clause-clean : goal.returns-in-Err-clause-clean
+returns-in-Err-clause-clean g c clean =
+    let conn_is : c.parts.inside.conn ≡ c.args.self.now.parts.conn = ap (λ (x : KeeperValue g.row.S.Denot). x.conn) c.parts.view_is in
+    let over = c.in-Err.ensures.over in
+    let it = (over.holds over.taken (begins_all over.taken over.ended)).survives in
+    subst (λ (h : Held g.row.S.Denot). HasCleanDisk (state g.S.Store h)) conn_is (omega (arith, it.clean, clean))
+
+pub returns-in-Err-clause-limit : goal.returns-in-Err-clause-limit
+returns-in-Err-clause-limit g c =
+    let conn_is : c.parts.inside.conn ≡ c.args.self.now.parts.conn = ap (λ (x : KeeperValue g.row.S.Denot). x.conn) c.parts.view_is in
+    let over = c.in-Err.ensures.over in
+    let it = (over.holds over.taken (begins_all over.taken over.ended)).survives in
+    it.limit ∙ ap (λ (h : Held g.row.S.Denot). h.step_limit) conn_is
 
 pub returns-in-Ok-clause-numbered : goal.returns-in-Ok-clause-numbered
 returns-in-Ok-clause-numbered g c b ties numbers =
