@@ -223,6 +223,7 @@ fn act_lines<S: Alter, T: Timeline, L: Lines, P: Progress>(
             }
         }
     }
+    // more lines than can be counted, so more than any memory holds
     Err(Halted {
         place: usize::MAX,
         stop: Stop::Fault(Fault::OutOfMemory),
