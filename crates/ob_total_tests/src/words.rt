@@ -28,19 +28,33 @@ fn told(alloc: Global, job: &Job) -> Result<String, AllocError> {
         }
         Job::Import { book, input, whole } => {
             let word = if *whole { "import whole" } else { "import" };
-            two_words(alloc, word, book.as_str(), input.as_str())
+            let (book, input) = (book.as_str(), input.as_str());
+            format!(in alloc; "{word} {book} {input}")
         }
-        Job::Export { book, output } => two_words(alloc, "export", book.as_str(), output.as_str()),
+        Job::Export { book, output } => {
+            let (book, output) = (book.as_str(), output.as_str());
+            format!(in alloc; "export {book} {output}")
+        }
         Job::Interruptions { book, output } => {
-            two_words(alloc, "interruptions", book.as_str(), output.as_str())
+            let (book, output) = (book.as_str(), output.as_str());
+            format!(in alloc; "interruptions {book} {output}")
         }
-        Job::Table { book } => two_words(alloc, "table", book.as_str(), "-"),
+        Job::Table { book } => {
+            let book = book.as_str();
+            format!(in alloc; "table {book}")
+        }
         Job::Indices { book, by, over } => {
             let (book, by) = (book.as_str(), by_word(*by));
             format!(in alloc; "indices {book} {by} {over}")
         }
-        Job::Audit { book } => two_words(alloc, "audit", book.as_str(), "-"),
-        Job::Migrate { book } => two_words(alloc, "migrate", book.as_str(), "-"),
+        Job::Audit { book } => {
+            let book = book.as_str();
+            format!(in alloc; "audit {book}")
+        }
+        Job::Migrate { book } => {
+            let book = book.as_str();
+            format!(in alloc; "migrate {book}")
+        }
         Job::Serve {
             book,
             port,
@@ -63,10 +77,6 @@ fn by_word(by: By) -> &'static str {
     }
 }
 
-fn two_words(alloc: Global, job: &str, book: &str, other: &str) -> Result<String, AllocError> {
-    format!(in alloc; "{job} {book} {other}")
-}
-
 // Arguments, and the job that they name with all that it is given.
 const JOBS: &'static str = "\
 outagebook total => total
@@ -78,29 +88,21 @@ outagebook import rows.csv --book=a.db --whole => import whole a.db rows.csv
 outagebook export --book a.db moves.csv => export a.db moves.csv
 outagebook interruptions rows.csv => interruptions book.db rows.csv
 outagebook interruptions --book a.db rows.csv => interruptions a.db rows.csv
-outagebook table => table book.db -
+outagebook table => table book.db
 outagebook indices => indices book.db whole 300
 outagebook indices --by=feeder --over 1 => indices book.db feeder 1
 outagebook indices --by month --over=99999 --book a.db => indices a.db month 99999
 outagebook indices --by=day => indices book.db day 300
 outagebook indices --by cause => indices book.db cause 300
 outagebook indices --by section => indices book.db section 300
-outagebook audit => audit book.db -
-outagebook audit --book=büch.db => audit büch.db -
-outagebook migrate => migrate book.db -
-outagebook migrate --book a.db => migrate a.db -
+outagebook audit => audit book.db
+outagebook audit --book=büch.db => audit büch.db
+outagebook migrate => migrate book.db
+outagebook migrate --book a.db => migrate a.db
 outagebook serve --port=8080 => serve book.db 8080 0
 outagebook serve --port 0 --streams 1 => serve book.db 0 1
 outagebook serve --streams=18446744073709551615 --port 65535 --book a.db => serve a.db 65535 18446744073709551615
 ";
-
-#[test]
-fn reads_jobs(rt: HostRuntime) -> Result<(), AllocError> {
-    are_answered(&rt, rt.alloc(), "job", JOBS)?;
-    let (kind, job) = answer(rt.alloc(), &["outagebook", "table", "--book", "a b.db"])?;
-    assert!(rt; kind == "job" && job.as_str() == "table a b.db -");
-    Ok(())
-}
 
 // Arguments that are refused, and a text that the message contains.
 const REFUSED: &'static str = "\
@@ -188,20 +190,20 @@ fn are_answered(rt: &impl Abort, alloc: Global, kind: &str, lines: &str) -> Resu
     Ok(())
 }
 
-#[test]
-fn refuses_words(rt: HostRuntime) -> Result<(), AllocError> {
-    let (kind, text) = answer(rt.alloc(), &[])?;
-    assert!(rt; kind == "wrong" && text.contains("Usage: outagebook"));
-    are_answered(&rt, rt.alloc(), "wrong", REFUSED)
-}
-
-#[test]
-fn shows_help(rt: HostRuntime) -> Result<(), AllocError> {
-    are_answered(&rt, rt.alloc(), "help", HELP)
-}
-
 // The version that is printed: the program's, and that of its books.
 const VERSION: &str = "outagebook 2 (books of version 2)\n";
+
+#[test]
+fn reads_jobs_refuses_words_and_shows_help(rt: HostRuntime) -> Result<(), AllocError> {
+    for (kind, lines) in [("job", JOBS), ("wrong", REFUSED), ("help", HELP)] {
+        are_answered(&rt, rt.alloc(), kind, lines)?;
+    }
+    let (kind, job) = answer(rt.alloc(), &["outagebook", "table", "--book", "a b.db"])?;
+    assert!(rt; kind == "job" && job.as_str() == "table a b.db");
+    let (kind, text) = answer(rt.alloc(), &[])?;
+    assert!(rt; kind == "wrong" && text.contains("Usage: outagebook"));
+    Ok(())
+}
 
 #[test]
 fn tells_its_version(rt: HostRuntime) -> Result<(), AllocError> {
