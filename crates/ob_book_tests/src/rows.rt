@@ -126,8 +126,7 @@ fn rows_of_services_around_an_outage(rt: HostRuntime) -> Result<(), Fail> {
         rows: Vec::new(rt.alloc()),
         room: 1_000,
     };
-    let count = each_row(&book, &mut shelf).map_err(|_| "no room")?;
-    assert!(rt; count == 4 && shelf.rows.len() == 4);
+    assert!(rt; each_row(&book, &mut shelf) == Ok(4) && shelf.rows.len() == 4);
     for (row, (section, service, interruption, cutter)) in shelf.rows.iter().zip(ROWS) {
         assert!(rt; (row.section, row.feeder, row.customers) == *section);
         assert!(rt; (row.service_since, row.service_until) == *service);

@@ -99,12 +99,13 @@ fn is_listed(
     listed: &Listed,
 ) -> Result<(), Fail> {
     let (by, longest, count, wanted) = *listed;
-    let text = String::from_utf8(indices_text(alloc, book, by, longest)?).map_err(|_| "no text")?;
+    let bytes = indices_text(alloc, book, by, longest)?;
+    let text = String::from_utf8(bytes).ok().ok_or("a text")?;
     let lines = text.as_str();
     assert!(rt; lines.lines().next() == Some(HEADER));
     assert!(rt; lines.lines().count() == count);
     for line in wanted.lines() {
-        assert!(rt; lines.lines().any(|found| found == line), "{line}");
+        assert!(rt; lines.contains(line), "{line}");
     }
     Ok(())
 }

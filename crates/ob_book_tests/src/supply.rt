@@ -30,7 +30,7 @@ fn the_supply_around_an_outage(rt: HostRuntime) -> Result<(), Fail> {
     let book = book_of(&rt, rt.alloc(), ONE_DAY, &[BREAKER])?;
     for line in SUPPLIES.lines() {
         let (second, wanted) = line.split_once(" => ").ok_or("a second")?;
-        let second = second.parse().map_err(|_| "a number")?;
+        let second = second.parse().ok().ok_or("a number")?;
         match book.supply_text(second)? {
             Some(text) => assert!(rt; text.as_slice() == wanted.as_bytes(), "{line}"),
             None => assert!(rt; wanted == "none", "{line}"),
