@@ -110,8 +110,8 @@ fn is_listed(
     Ok(())
 }
 
-// A feeder, which interruptions, the counts CI, CSI, CN and MI of its customers, and the seconds for
-// which they are served.
+// A feeder, which interruptions, the counts CI, CSI, CN and MI of its customers, and the seconds
+// for which they are served.
 const COUNTS: &'static [(u8, Which, (u64, u64, u64, u64), u64)] = &[
     (1, Which::All, (5, 18_000, 5, 0), 864_000),
     (2, Which::All, (0, 0, 0, 5), 864_000),

@@ -104,27 +104,29 @@ fn stuck_and_in_pieces(rt: HostRuntime) -> Result<(), AllocError> {
     over_a_store(&rt, rt.alloc(), true, &Streams { rows, commands: 1 })
 }
 
-// The exchange by writers that fail after each number of bytes of its reply, and by two that take
-// no further byte: each gets just that front of the reply, and a repeated request gets the rest.
-struct Writers;
+// The exchange by writers that fail after each number of bytes of its reply, or take no further
+// byte: each gets just that front of the reply, and a repeated request gets the rest.
+#[derive(Clone, Copy)]
+struct Writers {
+    writes: Way,
+}
 
 impl Trial for Writers {
     fn run<A: Abort, D: Desk>(&self, rt: &A, alloc: Global, desk: &mut D) -> Tried {
+        let writes = self.writes;
         for room in 0..FIRST.len() {
-            for writes in [FULL, ob_harness::WHOLE] {
-                let way = Ways {
-                    room,
-                    writes,
-                    ..WHOLE
-                };
-                let stream = Stream {
-                    way,
-                    end: Err(Fault::Output),
-                    written: &FIRST[..room],
-                    ..EXCHANGE
-                };
-                ends_so(rt, alloc, desk, room, &stream);
-            }
+            let way = Ways {
+                room,
+                writes,
+                ..WHOLE
+            };
+            let stream = Stream {
+                way,
+                end: Err(Fault::Output),
+                written: &FIRST[..room],
+                ..EXCHANGE
+            };
+            ends_so(rt, alloc, desk, room, &stream);
         }
         ends_so(rt, alloc, desk, FIRST.len(), &EXCHANGE);
         assert!(rt; desk.stands_with(1));
@@ -198,6 +200,8 @@ impl Trial for Fronts {
 
 #[test]
 fn readers_and_writers_that_fail(rt: HostRuntime) -> Result<(), AllocError> {
-    over_a_store(&rt, rt.alloc(), true, &Writers)?;
+    let (failing, full) = (FULL, ob_harness::WHOLE);
+    over_a_store(&rt, rt.alloc(), true, &Writers { writes: failing })?;
+    over_a_store(&rt, rt.alloc(), true, &Writers { writes: full })?;
     over_a_store(&rt, rt.alloc(), true, &Fronts)
 }

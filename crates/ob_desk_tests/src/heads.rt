@@ -10,8 +10,8 @@ use std::process::Abort;
 // Streams on a new book, ` => `, the number of replies or the name of the fault, and the written
 // bytes, with `|` for CRLF. First come requests that are refused because of their heads, which ends
 // the stream, although another request follows: one for each status. Other heads are those of
-// `requests.rt`. Then requests that end their streams; a client that waits for the interim reply and
-// is cut off, and one that sends its whole body; and a stream that goes on after two refusals.
+// `requests.rt`. Then requests that end their streams; a client that waits for the interim reply
+// and is cut off, and one that sends its whole body; and a stream that goes on after two refusals.
 const STREAMS: &'static str =
     r#"GET /totals HTTP/1.1||GET /n HTTP/1.1|Host: a|| => 1 HTTP/1.1 400 Bad Request|Content-Length: 0|Connection: close||
 POST /commands HTTP/1.1|Host: a|Transfer-Encoding: chunked||0||GET /n HTTP/1.1|Host: a|| => 1 HTTP/1.1 501 Not Implemented|Content-Length: 0|Connection: close||

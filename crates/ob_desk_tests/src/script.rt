@@ -7,10 +7,10 @@ use std::alloc::{AllocError, Global};
 use std::process::Abort;
 
 /// Requests on a stream each, one after the other, on the book of the outage or without a book; and
-/// the number of commands that the book then has. A line has the method, the path and the body, ` => `,
-/// the status of the reply and its body in JSON. In a body `|` stands for the end of a line. A reply
-/// with 404 has no body, and one with 405 names the other method. With the method `*` both GET and
-/// POST are sent.
+/// the number of commands that the book then has. A line has the method, the path and the body, `
+/// => `, the status of the reply and its body in JSON. In a body `|` stands for the end of a line.
+/// A reply with 404 has no body, and one with 405 names the other method. With the method `*` both
+/// GET and POST are sent.
 pub type Lines = (&'static str, Option<u32>);
 
 #[derive(Clone, Copy)]

@@ -1,5 +1,5 @@
-//! Tests of the outage intervals of a timeline; of the sections that a change of the switching log touches, their new outage intervals,
-//! and the searches it takes.
+//! Tests of the outage intervals of a timeline; of the sections that a change of the switching log
+//! touches, their new outage intervals, and the searches it takes.
 use crate::builds::BUILT;
 use crate::example::tell;
 use crate::lives::LIVES;

@@ -1,8 +1,9 @@
 //! Cases of a change of the network whose devices have lives: what it touches, the new outage
 //! intervals, and the searches it takes.
 /// In the last second, which the last case of the first log has, only the tie supplies S2. After
-/// `life B1 0 4000; life T1 4000 -` the breaker's life ends in second 4000, and the tie's begins and
-/// the tie is closed. With X1 up to 6000 the new device supplies S3 although its breaker is open.
+/// `life B1 0 4000; life T1 4000 -` the breaker's life ends in second 4000, and the tie's begins
+/// and the tie is closed. With X1 up to 6000 the new device supplies S3 although its breaker is
+/// open.
 pub const LIVES: &'static str = "\
 1970-01-01 1 | - | switch B1 open 3600 3 K1; switch W1 open 4200 3 K1; switch T1 close 4200 3 K1; \
     switch B1 close 7200 3 K1

@@ -32,8 +32,9 @@ switch,E4,B1,close,7200,3,K1,
 ";
 
 // Rows after the first example. The tie's life ends at 6000, so three customers lose supply for
-// 4,000 seconds; then the life is set without an end. The life of another device to the first section
-// begins at 5000: its two customers have supply 2,200 seconds earlier. A switching behind the span.
+// 4,000 seconds; then the life is set without an end. The life of another device to the first
+// section begins at 5000: its two customers have supply 2,200 seconds earlier. A switching behind
+// the span.
 const AFTER: &'static [(&'static str, &'static str)] = &[
     ("", "W 9000"),
     ("life,L1,T1,,6000,,,\n", "W 21000"),

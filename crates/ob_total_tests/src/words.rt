@@ -28,33 +28,19 @@ fn told(alloc: Global, job: &Job) -> Result<String, AllocError> {
         }
         Job::Import { book, input, whole } => {
             let word = if *whole { "import whole" } else { "import" };
-            let (book, input) = (book.as_str(), input.as_str());
-            format!(in alloc; "{word} {book} {input}")
+            two_words(alloc, word, book.as_str(), input.as_str())
         }
-        Job::Export { book, output } => {
-            let (book, output) = (book.as_str(), output.as_str());
-            format!(in alloc; "export {book} {output}")
-        }
+        Job::Export { book, output } => two_words(alloc, "export", book.as_str(), output.as_str()),
         Job::Interruptions { book, output } => {
-            let (book, output) = (book.as_str(), output.as_str());
-            format!(in alloc; "interruptions {book} {output}")
+            two_words(alloc, "interruptions", book.as_str(), output.as_str())
         }
-        Job::Table { book } => {
-            let book = book.as_str();
-            format!(in alloc; "table {book}")
-        }
+        Job::Table { book } => two_words(alloc, "table", book.as_str(), "-"),
         Job::Indices { book, by, over } => {
             let (book, by) = (book.as_str(), by_word(*by));
             format!(in alloc; "indices {book} {by} {over}")
         }
-        Job::Audit { book } => {
-            let book = book.as_str();
-            format!(in alloc; "audit {book}")
-        }
-        Job::Migrate { book } => {
-            let book = book.as_str();
-            format!(in alloc; "migrate {book}")
-        }
+        Job::Audit { book } => two_words(alloc, "audit", book.as_str(), "-"),
+        Job::Migrate { book } => two_words(alloc, "migrate", book.as_str(), "-"),
         Job::Serve {
             book,
             port,
@@ -64,6 +50,10 @@ fn told(alloc: Global, job: &Job) -> Result<String, AllocError> {
             format!(in alloc; "serve {book} {port} {streams}")
         }
     }
+}
+
+fn two_words(alloc: Global, job: &str, book: &str, other: &str) -> Result<String, AllocError> {
+    format!(in alloc; "{job} {book} {other}")
 }
 
 fn by_word(by: By) -> &'static str {
@@ -88,17 +78,17 @@ outagebook import rows.csv --book=a.db --whole => import whole a.db rows.csv
 outagebook export --book a.db moves.csv => export a.db moves.csv
 outagebook interruptions rows.csv => interruptions book.db rows.csv
 outagebook interruptions --book a.db rows.csv => interruptions a.db rows.csv
-outagebook table => table book.db
+outagebook table => table book.db -
 outagebook indices => indices book.db whole 300
 outagebook indices --by=feeder --over 1 => indices book.db feeder 1
 outagebook indices --by month --over=99999 --book a.db => indices a.db month 99999
 outagebook indices --by=day => indices book.db day 300
 outagebook indices --by cause => indices book.db cause 300
 outagebook indices --by section => indices book.db section 300
-outagebook audit => audit book.db
-outagebook audit --book=büch.db => audit büch.db
-outagebook migrate => migrate book.db
-outagebook migrate --book a.db => migrate a.db
+outagebook audit => audit book.db -
+outagebook audit --book=büch.db => audit büch.db -
+outagebook migrate => migrate book.db -
+outagebook migrate --book a.db => migrate a.db -
 outagebook serve --port=8080 => serve book.db 8080 0
 outagebook serve --port 0 --streams 1 => serve book.db 0 1
 outagebook serve --streams=18446744073709551615 --port 65535 --book a.db => serve a.db 65535 18446744073709551615
@@ -199,7 +189,7 @@ fn reads_jobs_refuses_words_and_shows_help(rt: HostRuntime) -> Result<(), AllocE
         are_answered(&rt, rt.alloc(), kind, lines)?;
     }
     let (kind, job) = answer(rt.alloc(), &["outagebook", "table", "--book", "a b.db"])?;
-    assert!(rt; kind == "job" && job.as_str() == "table a b.db");
+    assert!(rt; kind == "job" && job.as_str() == "table a b.db -");
     let (kind, text) = answer(rt.alloc(), &[])?;
     assert!(rt; kind == "wrong" && text.contains("Usage: outagebook"));
     Ok(())

@@ -138,8 +138,8 @@ fn rows(rt: HostRuntime) -> Result<(), Fail> {
     Ok(())
 }
 
-// Texts that are no bodies, between bars; one of them is the end of each line. The bodies of `device`
-// and `life` need a beginning and an end.
+// Texts that are no bodies, between bars; one of them is the end of each line. The bodies of
+// `device` and `life` need a beginning and an end.
 const NO_BODIES: &'static str = "\
 || |cause|cause 3|cause  STORM|cause 3 |cause 3 STORM | cause 3 STORM|cause  3 STORM|
 |cause 3  STORM|cause 3\tSTORM|cause 03 STORM|cause 0 STORM|cause 64 STORM|cause +3 STORM|
