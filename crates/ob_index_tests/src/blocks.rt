@@ -1,28 +1,23 @@
-//! Tests of a section with 100,000 customers in three blocks.
-use crate::moved::{period_of, sum_of};
+//! Tests of a section with 100,000 customers in three blocks, and of services out of a day.
+use crate::moved::{Served, amounts_in, period_of, roll_of, sum_of};
 use ob_cust::{Customer, Roll};
-use ob_net::Second;
-use ob_post::{Dim, Moved, amounts};
+use ob_post::Dim;
 use ob_sweep::Run;
 use std::alloc::Global;
 use std::test::Fail;
 
 // The service of a customer: without bounds that matter, up to noon of 1970-01-02, or from a
 // hundred seconds after that noon on.
-fn service_of(no: u32) -> (Second, Option<Second>) {
-    if no <= 30_000 {
-        (0, None)
-    } else if no <= 65_000 {
-        (86_400, Some(129_600))
-    } else {
-        (129_700, None)
-    }
-}
-
 fn three_blocks(alloc: Global) -> Result<Roll, Fail> {
     let mut roll = Roll::new(alloc);
     for no in 1..100_001u32 {
-        let (since, until) = service_of(no);
+        let (since, until) = if no <= 30_000 {
+            (0, None)
+        } else if no <= 65_000 {
+            (86_400, Some(129_600))
+        } else {
+            (129_700, None)
+        };
         roll.reserve_one()?;
         roll.connect(Customer {
             no,
@@ -32,16 +27,6 @@ fn three_blocks(alloc: Global) -> Result<Roll, Fail> {
         })?;
     }
     Ok(roll)
-}
-
-// The amounts of an outage interval in 1970-01-02, with cause 3 and feeder 7.
-fn amounts_in(alloc: Global, run: &Run, roll: &Roll) -> Result<Vec<Moved>, Fail> {
-    let day = period_of(alloc, b"1970-01-02", 1, b"UTC0")?;
-    if run.since < day.first_second() || run.until <= run.since || day.end_second() < run.until {
-        return Err("a run out of place".into());
-    }
-    let rows = amounts(alloc, run, 3, 7, roll, &day)?;
-    Ok(rows)
 }
 
 // An outage interval across the end of a block and the beginning of another: 30,000 customers for
@@ -56,9 +41,10 @@ const ACROSS: Run = Run {
 #[test]
 fn a_run_across_the_end_of_a_block(rt: HostRuntime) -> Result<(), Fail> {
     let roll = three_blocks(rt.alloc())?;
-    let rows = amounts_in(rt.alloc(), &ACROSS, &roll)?;
+    let day = period_of(rt.alloc(), b"1970-01-02", 1, b"UTC0")?;
+    let rows = amounts_in(rt.alloc(), &ACROSS, &roll, &day)?;
     assert!(rt; roll.blocks(1)?.len() == 3);
-    for (dim, key) in [(Dim::Cause, 3), (Dim::Feeder, 7), (Dim::Day, 0)] {
+    for (dim, key) in [(Dim::Cause, 3), (Dim::Feeder, 2), (Dim::Day, 0)] {
         assert!(rt; sum_of(&rows, dim, key)? == 16_065_000);
     }
     Ok(())
@@ -71,32 +57,19 @@ const WHOLE_DAY: Run = Run {
     cutter: None,
 };
 
-fn roll_of(alloc: Global, services: &[(u32, Second, Option<Second>)]) -> Result<Roll, Fail> {
-    let mut roll = Roll::new(alloc);
-    for (no, since, until) in services {
-        roll.reserve_one()?;
-        roll.connect(Customer {
-            no: *no,
-            section: 1,
-            since: *since,
-            until: *until,
-        })?;
-    }
-    Ok(roll)
-}
-
 // Services that begin after the day or at its end, and two that are over before its first second.
-const OUT_OF_THE_DAY: [(u32, Second, Option<Second>); 4] = [
-    (1, 172_801, None),
-    (2, 172_800, Some(172_900)),
-    (3, 0, Some(86_399)),
-    (4, 10, Some(86_400)),
+const OUT_OF_THE_DAY: &'static [Served] = &[
+    (1, 1, 172_801, None),
+    (2, 1, 172_800, Some(172_900)),
+    (3, 1, 0, Some(86_399)),
+    (4, 1, 10, Some(86_400)),
 ];
 
 #[test]
 fn services_out_of_the_day_add_nothing(rt: HostRuntime) -> Result<(), Fail> {
-    let roll = roll_of(rt.alloc(), &OUT_OF_THE_DAY)?;
-    let rows = amounts_in(rt.alloc(), &WHOLE_DAY, &roll)?;
+    let roll = roll_of(rt.alloc(), OUT_OF_THE_DAY)?;
+    let day = period_of(rt.alloc(), b"1970-01-02", 1, b"UTC0")?;
+    let rows = amounts_in(rt.alloc(), &WHOLE_DAY, &roll, &day)?;
     assert!(rt; sum_of(&rows, Dim::Cause, 3)? == 0);
     assert!(rt; sum_of(&rows, Dim::Day, 0)? == 0);
     Ok(())

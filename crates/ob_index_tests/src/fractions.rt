@@ -1,53 +1,36 @@
 //! Tests of fractions in lowest terms, their texts, and the indices of counts.
 use ob_index::indices::indices;
 use ob_index::{Counts, Fraction, decimal3, reduced};
-use std::alloc::{AllocError, Global};
-use std::process::Abort;
 use std::test::Fail;
 
 fn is(fraction: Option<Fraction>, num: u128, den: u128) -> bool {
-    fraction.is_some_and(|fraction| fraction.num() == num && fraction.den() == den)
+    match fraction {
+        Some(fraction) => fraction.num() == num && fraction.den() == den,
+        None => false,
+    }
 }
 
+// A quotient, its numerator and denominator in lowest terms, its text, and its three decimals.
+type Quotient = (u128, u128, u128, u128, &'static str, &'static str);
+
+const QUOTIENTS: &'static [Quotient] = &[
+    (602, 240, 301, 120, "301/120", "2.508"),
+    (95, 96, 95, 96, "95/96", "0.990"),
+    (1, 16, 1, 16, "1/16", "0.063"),
+    (0, 7, 0, 1, "0/1", "0.000"),
+];
+
 #[test]
-fn quotients_are_reduced(rt: HostRuntime) {
-    assert!(rt; is(reduced(602, 240), 301, 120));
-    assert!(rt; is(reduced(0, 7), 0, 1));
+fn quotients_are_reduced_and_printed(rt: HostRuntime) -> Result<(), Fail> {
+    for (a, b, num, den, text, decimals) in QUOTIENTS {
+        let fraction = reduced(*a, *b).ok_or("a fraction")?;
+        assert!(rt; fraction.num() == *num && fraction.den() == *den);
+        assert!(rt; fraction.to_string(rt.alloc())?.as_str() == *text);
+        assert!(rt; fraction.num() < 1_000 && fraction.den() < 1_000);
+        assert!(rt; decimal3(&fraction).to_string(rt.alloc())?.as_str() == *decimals);
+    }
     assert!(rt; reduced(5, 0).is_none());
-}
-
-// Checks the text of a fraction, and its three decimals.
-fn shows(
-    rt: &impl Abort,
-    alloc: Global,
-    fraction: &Fraction,
-    text: &str,
-    decimals: &str,
-) -> Result<(), AllocError> {
-    assert!(rt; fraction.to_string(alloc)?.as_str() == text);
-    assert!(rt; fraction.num() < 1_000 && fraction.den() < 1_000);
-    assert!(rt; decimal3(fraction).to_string(alloc)?.as_str() == decimals);
     Ok(())
-}
-
-// Checks the same of a quotient.
-fn quotient_shows(
-    rt: &impl Abort,
-    alloc: Global,
-    quotient: (u128, u128),
-    text: &str,
-    decimals: &str,
-) -> Result<(), Fail> {
-    let fraction = reduced(quotient.0, quotient.1).ok_or("a fraction")?;
-    shows(rt, alloc, &fraction, text, decimals)?;
-    Ok(())
-}
-
-#[test]
-fn fractions_are_printed(rt: HostRuntime) -> Result<(), Fail> {
-    quotient_shows(&rt, rt.alloc(), (602, 240), "301/120", "2.508")?;
-    quotient_shows(&rt, rt.alloc(), (95, 96), "95/96", "0.990")?;
-    quotient_shows(&rt, rt.alloc(), (1, 16), "1/16", "0.063")
 }
 
 // One of ten customers, out for 301 seconds of a day in which all are in service.

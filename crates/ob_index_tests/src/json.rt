@@ -1,22 +1,14 @@
 //! Tests of the JSON texts of indices and of plans. That of totals is tested in `ob_book_tests`.
 use crate::moved::row;
+use ob_index::Counts;
 use ob_index::indices::indices;
-use ob_index::{Counts, Indices};
 use ob_json::{OutageInterval, SectionChange, forecast_text, indices_text, same_intervals};
 use ob_net::Name;
 use ob_post::Dim;
-use std::alloc::Global;
-use std::process::Abort;
 use std::test::Fail;
 
 const INDICES: &[u8] =
     b"{\"all\":{\"asai\":\"95/96\",\"caidi\":\"30/1\",\"caifi\":\"1/1\",\"cemi\":[\"1/2\",\"0/1\",\"0/1\",\"0/1\",\"0/1\",\"0/1\",\"0/1\",\"0/1\",\"0/1\",\"0/1\"],\"momentary\":0,\"saidi\":\"15/1\",\"saifi\":\"1/2\",\"sustained\":5},\"unmarked\":{\"asai\":\"1/1\",\"caidi\":\"undefined\",\"caifi\":\"undefined\",\"cemi\":[\"0/1\",\"0/1\",\"0/1\",\"0/1\",\"0/1\",\"0/1\",\"0/1\",\"0/1\",\"0/1\",\"0/1\"],\"momentary\":0,\"saidi\":\"0/1\",\"saifi\":\"0/1\",\"sustained\":0}}";
-
-fn show(rt: &impl Abort, alloc: Global, all: &Indices, unmarked: &Indices) -> Result<(), Fail> {
-    let text = indices_text(alloc, all, unmarked)?;
-    assert!(rt; text.as_slice() == INDICES);
-    Ok(())
-}
 
 // Five of ten customers are out for half an hour of a day, which is marked.
 #[test]
@@ -37,26 +29,33 @@ fn indices_are_shown(rt: HostRuntime) -> Result<(), Fail> {
     };
     let all = indices(&counts, 864_000, 86_400);
     let unmarked = indices(&none, 864_000, 86_400);
-    show(&rt, rt.alloc(), &all, &unmarked)
+    let text = indices_text(rt.alloc(), &all, &unmarked)?;
+    assert!(rt; text.as_slice() == INDICES);
+    Ok(())
 }
 
 const FORECAST: &[u8] =
     br#"{"moved":[["cause",3,-9000]],"sections":[{"after":[[60,90,2,3]],"before":[[60,90,null,0]],"section":"S1"}]}"#;
 
-fn from_60_to_90(entry: Option<u32>, cause: u8) -> OutageInterval {
-    OutageInterval {
-        since: 60,
-        until: 90,
-        entry,
-        cause,
-    }
-}
+const BEFORE: OutageInterval = OutageInterval {
+    since: 60,
+    until: 90,
+    entry: None,
+    cause: 0,
+};
+
+const AFTER: OutageInterval = OutageInterval {
+    since: 60,
+    until: 90,
+    entry: Some(2),
+    cause: 3,
+};
 
 // The half minute without supply that no entry began gets an entry that began it.
 #[test]
 fn a_plan_is_shown(rt: HostRuntime) -> Result<(), Fail> {
-    let before = vec![in rt.alloc(); from_60_to_90(None, 0)]?;
-    let after = vec![in rt.alloc(); from_60_to_90(Some(2), 3)]?;
+    let before = vec![in rt.alloc(); BEFORE]?;
+    let after = vec![in rt.alloc(); AFTER]?;
     assert!(&rt; same_intervals(&before, &before) && !same_intervals(&before, &after));
     let name = Name::read(b"S1").ok_or("a name")?;
     let sections = vec![in rt.alloc(); SectionChange::new(name, before, after)]?;

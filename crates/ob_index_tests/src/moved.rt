@@ -1,9 +1,12 @@
-//! Rows of amounts, written as tuples, and periods.
+//! Rows of amounts, written as tuples; periods and registers; the amounts of an outage interval.
 ghost use Rattle.std.specs.Prelude.{◌≡◌, IfOk};
 ghost use Rattle.ob_time.specs.Calendar.{day_count};
 
-use ob_post::{Dim, Moved};
-use ob_time::Period;
+use ob_cust::{Customer, Roll};
+use ob_net::Second;
+use ob_post::{Dim, Moved, amounts};
+use ob_sweep::Run;
+use ob_time::{CivilDays, Period};
 use std::alloc::Global;
 use std::test::Fail;
 
@@ -12,11 +15,12 @@ pub type Row = (Dim, u16, i64);
 
 /// Answers whether the rows equal these tuples, in this order.
 pub fn are(moved: &[Moved], wanted: &[Row]) -> bool {
+    for (row, wanted) in moved.iter().zip(wanted) {
+        if (row.dim, row.key, row.delta) != *wanted {
+            return false;
+        }
+    }
     moved.len() == wanted.len()
-        && moved
-            .iter()
-            .zip(wanted)
-            .all(|(row, wanted)| (row.dim, row.key, row.delta) == *wanted)
 }
 
 /// The row of a dimension, a key and a delta.
@@ -44,4 +48,36 @@ pub fn period_of(alloc: Global, first: &[u8], days: u16, zone: &[u8]) -> Result<
 {
     let period = Period::from_text(alloc, first, days, zone)?;
     Ok(period)
+}
+
+/// A customer's number, its section, and the bounds of its service.
+pub type Served = (u32, u16, Second, Option<Second>);
+
+/// The register of these customers.
+pub fn roll_of(alloc: Global, customers: &[Served]) -> Result<Roll, Fail> {
+    let mut roll = Roll::new(alloc);
+    for (no, section, since, until) in customers {
+        roll.reserve_one()?;
+        roll.connect(Customer {
+            no: *no,
+            section: *section,
+            since: *since,
+            until: *until,
+        })?;
+    }
+    Ok(roll)
+}
+
+/// The amounts of an outage interval within a period, with cause 3 and feeder 2.
+pub fn amounts_in(
+    alloc: Global,
+    run: &Run,
+    roll: &Roll,
+    period: &CivilDays,
+) -> Result<Vec<Moved>, Fail> {
+    let (first, end) = (period.first_second(), period.end_second());
+    if run.since < first || run.until <= run.since || end < run.until {
+        return Err("a run out of place".into());
+    }
+    Ok(amounts(alloc, run, 3, 2, roll, period)?)
 }

@@ -6,7 +6,6 @@ ghost use Rattle.ob_index_tests.specs.Small.{IsSmall};
 use crate::moved::{Row, are, row};
 use ob_post::{Dim, Moved, laws, moves};
 use std::alloc::Global;
-use std::process::Abort;
 use std::test::Fail;
 
 // Answers whether the row has a key that postings keep, and a small difference.
@@ -48,10 +47,6 @@ fn small_moves(alloc: Global, taken: &[Moved], given: &[Moved]) -> Result<Vec<Mo
     Ok(moves(alloc, taken, given)?)
 }
 
-fn moves_between(alloc: Global, taken: &[Row], given: &[Row]) -> Result<Vec<Moved>, Fail> {
-    small_moves(alloc, &rows(alloc, taken)?, &rows(alloc, given)?)
-}
-
 const TAKEN: [Row; 3] = [
     (Dim::Cause, 3, 1_800),
     (Dim::Feeder, 1, 1_800),
@@ -78,26 +73,22 @@ const MOVES: [Row; 4] = [
 // zeros.
 #[test]
 fn moves_are_differences(rt: HostRuntime) -> Result<(), Fail> {
-    let moved = moves_between(rt.alloc(), &TAKEN, &GIVEN)?;
+    let (taken, given) = (rows(rt.alloc(), &TAKEN)?, rows(rt.alloc(), &GIVEN)?);
+    let moved = small_moves(rt.alloc(), &taken, &given)?;
     assert!(rt; are(&moved, &MOVES));
-    let none = moves_between(rt.alloc(), &GIVEN, &GIVEN)?;
-    assert!(rt; none.is_empty());
+    assert!(rt; small_moves(rt.alloc(), &given, &given)?.is_empty());
     Ok(())
-}
-
-#[test]
-fn dimensions_have_numbers(rt: HostRuntime) {
-    assert!(rt; Dim::Cause.number() == 1 && Dim::Cause.word() == "cause");
-    assert!(rt; Dim::Feeder.number() == 2 && Dim::Feeder.word() == "feeder");
-    assert!(rt; Dim::Day.number() == 3 && Dim::Day.word() == "day");
 }
 
 // The laws are for proofs: a call does nothing.
 #[test]
-fn laws_can_be_called(_rt: HostRuntime) {
+fn dimensions_have_numbers_and_laws_can_be_called(rt: HostRuntime) {
     laws::section_laws();
     laws::cause_laws();
     laws::roll_laws();
     laws::total_laws();
     laws::move_laws();
+    assert!(rt; Dim::Cause.number() == 1 && Dim::Cause.word() == "cause");
+    assert!(rt; Dim::Feeder.number() == 2 && Dim::Feeder.word() == "feeder");
+    assert!(rt; Dim::Day.number() == 3 && Dim::Day.word() == "day");
 }

@@ -14,9 +14,15 @@ fn cause(rt: &impl Abort, code: u8, text: &[u8], amount: u64) -> CauseRow {
     CauseRow { code, name, amount }
 }
 
-fn feeder(feeder: u8, amount: u64) -> FeederRow {
-    FeederRow { feeder, amount }
-}
+const ONE: FeederRow = FeederRow {
+    feeder: 1,
+    amount: 9000,
+};
+
+const TWO: FeederRow = FeederRow {
+    feeder: 2,
+    amount: 0,
+};
 
 // The indices of ten customers in service for a day, five of them without supply for half an hour.
 fn half_an_hour() -> Indices
@@ -73,7 +79,7 @@ fn table_of_one_day(rt: HostRuntime) -> Result<(), Fail> {
             cause(&rt, 3, b"STORM", 9000),
             cause(&rt, 4, b"PLANNED", 0),
         ],
-        feeders: &[feeder(1, 9000), feeder(2, 0)],
+        feeders: &[ONE, TWO],
         days: &[9000],
         marks: &marks,
         all: &x,

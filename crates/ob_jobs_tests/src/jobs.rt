@@ -4,6 +4,5 @@
 pub mod calls;
 mod host;
 mod memory;
-mod script;
+pub mod script;
 mod steps;
-mod writers;

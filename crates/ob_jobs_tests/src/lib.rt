@@ -1,7 +1,7 @@
 //! Tests of imports into a book, of exports and interruptions from one and of the program's jobs,
-//! over a store in memory: reports, refused rows, failing readers, writers and sinks, printed lines and exit
-//! statuses, and when a job opens its input. They are worked out by hand from the definitions. The
-//! sample fortnight, imports with in-service intervals and files of version 1 are those of
+//! over a store in memory: reports, refused rows, failing readers and writers, printed lines and
+//! exit statuses, and when a job opens its input. They are worked out by hand from the definitions.
+//! The sample fortnight, imports with in-service intervals and files of version 1 are those of
 //! `oracle/compare.py`. This crate holds only tests, and no other crate uses it.
 #![tactic(auto)]
 
@@ -10,17 +10,11 @@ mod exports;
 #[cfg(test)]
 mod imports;
 #[cfg(test)]
-mod interruptions;
-#[cfg(test)]
 mod jobs;
 #[cfg(test)]
 mod office;
 #[cfg(test)]
-mod refusals;
-#[cfg(test)]
 mod script;
-#[cfg(test)]
-mod sinks;
 #[cfg(test)]
 mod streams;
 #[cfg(test)]

@@ -1,11 +1,10 @@
 //! Steps with a `Keeper`, one after another, and the answer to each.
-use crate::exports::{always_breaks_off, are_handed, are_told, breaks_off};
-use crate::interruptions::list_always_breaks_off;
-use crate::office::{Heard, Office, Period, Report, Trial, over};
-use crate::refusals::is_refused;
-use crate::sinks::WIDE;
+use crate::jobs::calls::Ask;
+use crate::jobs::script::BAD_BOOK;
+use crate::office::{Heard, Office, Report, Trial, What, over};
 use crate::streams::are_broken;
 use crate::tables::has_rows;
+use ob_harness::texts::OUTAGE;
 use ob_harness::{Sink, Source, WHOLE, Way};
 use ob_import::{ImportFault, ImportReport};
 use ob_net::{Fault, Refusal, Stop};
@@ -47,112 +46,119 @@ impl Outcome {
     }
 }
 
-/// 2024-01-01 in UTC.
-pub const A_DAY: Period = ("2024-01-01", 1, "UTC0");
+/// Room for more than any text here.
+const WIDE: usize = 1_000_000;
 
 /// A step with a `Keeper`, and the expected answer.
 pub enum Step {
-    /// Creates a book of this period.
-    Make(Period),
+    /// Creates the book of 2024-01-01 in UTC.
+    Make,
     /// Imports this text, from memory or from a reader.
     Import(&'static str, Outcome),
     /// Imports this text from a reader that gives it in this way.
     Read(Way, &'static str, Outcome),
     /// Imports this text from readers that fail after each of its bytes in turn.
     ReadFronts(&'static str),
-    /// Checks that the import of this row under the header is refused because of this column.
-    Row(&'static str, u8),
     /// Imports this text, with this reported progress.
     Hear(&'static str, Heard),
-    /// Exports this text, with this answer.
-    Export(Result<u64, Stop>, &'static str),
+    /// Writes this part of the book as this text, with this answer.
+    Write(What, Result<u64, Stop>, &'static str),
     /// Exports to a writer that has room for this text and takes it in this way: the text without
     /// this end of it is written.
-    Write(Way, Result<u64, Stop>, &'static str, &'static str),
-    /// Checks that an export of this text in this way to a writer with less room breaks off.
-    Break(Way, &'static str, usize),
-    /// Checks the same with room for each number of bytes.
-    BreakAlways(Way, &'static str),
-    /// Writes the interruptions, with this answer and this text.
-    List(Result<u64, Stop>, &'static str),
-    /// Checks that writing the interruptions in this way to a writer with room for each number of
-    /// bytes of this text breaks off.
-    BreakList(Way, &'static str),
-    /// Gives the moves of the outage with its correction to sinks with room for each number of them.
-    Hands,
-    /// Checks that the stored replies have these moves.
-    Replies,
+    Export(Way, Result<u64, Stop>, &'static str, &'static str),
+    /// Checks that writing this text in this way breaks off, to writers with room for each number
+    /// of its bytes from the first number to before the last.
+    Break(What, Way, &'static str, usize, usize),
     /// As the last step, checks the numbers of rows in the tables: the period, causes, nodes,
     /// devices, their lives, customers, entries, marked days, commands, moves, amounts.
     Rows(&'static [i64]),
 }
 
-// Imports a text that is in memory or comes from a reader.
-fn imported<O: Office>(alloc: Global, office: &mut O, by_reader: bool, text: &str) -> Report {
-    if by_reader {
-        office.reads(alloc, Source::new(text.as_bytes(), WHOLE))
-    } else {
-        office.takes(alloc, text.as_bytes())
-    }
-}
-
 // Answers whether a step gets the expected answer.
 fn holds<O: Office>(alloc: Global, office: &mut O, by_reader: bool, step: &Step) -> bool {
     match step {
-        Step::Make(period) => office.makes(period) == Ok(()),
+        Step::Make => {
+            office.does(alloc, Ask::Make(1), Sink::new(alloc, WIDE, WHOLE)).status == 0
+        }
         Step::Import(text, wanted) => {
-            imported(alloc, office, by_reader, text) == wanted.report()
+            if by_reader {
+                office.reads(alloc, Source::new(text.as_bytes(), WHOLE)) == wanted.report()
+            } else {
+                office.takes(alloc, text.as_bytes()) == wanted.report()
+            }
         }
         Step::Read(way, text, wanted) => {
             office.reads(alloc, Source::new(text.as_bytes(), *way)) == wanted.report()
         }
         Step::ReadFronts(text) => are_broken(alloc, office, text.as_bytes()),
-        Step::Row(row, column) => is_refused(alloc, office, row, *column),
         Step::Hear(text, wanted) => {
             office.hears(alloc, Source::new(text.as_bytes(), WHOLE)) == *wanted
         }
-        Step::Export(end, text) => {
-            is_written(alloc, office, Sink::new(alloc, WIDE, WHOLE), *end, text)
-        }
-        Step::Write(way, end, text, less) => match text.strip_suffix(*less) {
-            Some(front) => {
-                let sink = Sink::new(alloc, text.len(), *way);
-                is_written(alloc, office, sink, *end, front)
-            }
-            None => false,
-        },
-        Step::Break(way, text, room) => breaks_off(alloc, office, *way, text.as_bytes(), *room),
-        Step::BreakAlways(way, text) => always_breaks_off(alloc, office, *way, text.as_bytes()),
-        Step::List(end, text) => {
-            let written = office.lists(alloc, Sink::new(alloc, WIDE, WHOLE));
+        Step::Write(what, end, text) => {
+            let written = office.writes(alloc, *what, Sink::new(alloc, WIDE, WHOLE));
             written.end == *end && written.bytes.as_slice() == text.as_bytes()
         }
-        Step::BreakList(way, text) => list_always_breaks_off(alloc, office, *way, text.as_bytes()),
-        Step::Hands => are_handed(alloc, office),
-        Step::Replies => are_told(alloc, office),
+        Step::Export(way, end, text, less) => {
+            let sink = Sink::new(alloc, text.len(), *way);
+            let written = office.writes(alloc, What::Moves, sink);
+            let front = text.strip_suffix(*less).unwrap_or("");
+            written.end == *end && written.bytes.as_slice() == front.as_bytes()
+        }
+        Step::Break(what, way, text, first, last) => {
+            breaks_off(
+                alloc,
+                office,
+                (*what, *way),
+                text.as_bytes(),
+                (*first, *last),
+            )
+        }
         Step::Rows(_) => true,
     }
 }
 
-// Answers whether an export to a writer gets this answer and writes these bytes.
-fn is_written<O: Office>(
+// Answers whether writing this text to writers with these rooms stops with an output fault when the
+// writer is full.
+fn breaks_off<O: Office>(
     alloc: Global,
     office: &mut O,
-    sink: Sink,
-    end: Result<u64, Stop>,
-    text: &str,
+    writing: (What, Way),
+    text: &[u8],
+    rooms: (usize, usize),
 ) -> bool {
-    let written = office.writes(alloc, sink);
-    written.end == end && written.bytes.as_slice() == text.as_bytes()
+    let (what, way) = writing;
+    for room in rooms.0..rooms.1 {
+        let written = office.writes(alloc, what, Sink::new(alloc, room, way));
+        let is_broken = written.end == Err(Stop::Fault(Fault::Output));
+        if !is_broken || written.bytes.len() != room || !text.starts_with(&written.bytes) {
+            return false;
+        }
+    }
+    true
 }
 
 // Answers whether no table differs from what the commands give, or there is a book neither in the
 // tables nor in memory.
-fn is_sound<O: Office>(office: &mut O) -> bool {
-    match office.audits() {
-        Ok(is_same) => is_same,
-        Err(stop) => stop == Stop::Refused(Refusal::BadBook) && !office.has_book(),
+fn is_sound<O: Office>(alloc: Global, office: &mut O) -> bool {
+    let had_book = office.has_book();
+    let told = office.does(alloc, Ask::Audit, Sink::new(alloc, WIDE, WHOLE));
+    told.text.as_slice() == b"audit ok\n".as_slice() || (told.halt == BAD_BOOK && !had_book)
+}
+
+/// Answers whether an import, and writing each part of a book, stops because there is no book, and
+/// writes nothing.
+pub fn lacks_book<O: Office>(alloc: Global, office: &mut O) -> bool {
+    let wanted = Outcome::Broken(0, 0, Fault::Reopen).report();
+    if office.reads(alloc, Source::new(OUTAGE.as_bytes(), WHOLE)) != wanted {
+        return false;
     }
+    for what in [What::Export, What::Interruptions, What::Table] {
+        let written = office.writes(alloc, what, Sink::new(alloc, WIDE, WHOLE));
+        if written.end != Err(Stop::Fault(Fault::Reopen)) || !written.bytes.is_empty() {
+            return false;
+        }
+    }
+    true
 }
 
 // Steps in their order. The texts are in memory, or each comes from a reader.
@@ -171,15 +177,17 @@ impl Trial for Script<'_> {
                 "step {place}, from 0"
             );
         }
-        assert!(rt; is_sound(office));
+        assert!(rt; is_sound(alloc, office));
     }
 }
 
-fn are_told_by(
+/// Checks steps with a `Keeper` over a store in memory, and that no table then differs from what
+/// the commands give.
+pub fn is_told(
     rt: &impl Abort,
     alloc: Global,
-    by_reader: bool,
     steps: &[Step],
+    by_reader: bool,
 ) -> Result<(), AllocError> {
     let Ok(conn) = Connection::open_in_memory(alloc) else {
         return Err(AllocError);
@@ -189,16 +197,4 @@ fn are_told_by(
         has_rows(rt, alloc, &mut conn, rows);
     }
     Ok(())
-}
-
-/// Checks steps with a `Keeper` over a store in memory, and that no table then differs from what the
-/// commands give. The texts of the steps are in memory.
-pub fn is_told(rt: &impl Abort, alloc: Global, steps: &[Step]) -> Result<(), AllocError> {
-    are_told_by(rt, alloc, false, steps)
-}
-
-/// Checks steps with each text in memory, and then with each text from a reader.
-pub fn is_told_both_ways(rt: &impl Abort, alloc: Global, steps: &[Step]) -> Result<(), AllocError> {
-    are_told_by(rt, alloc, false, steps)?;
-    are_told_by(rt, alloc, true, steps)
 }

@@ -23,15 +23,10 @@ pub fn has_rows<S: Alter>(
 
 // The number of rows in a table.
 fn count<S: Alter>(alloc: Global, conn: &mut Connection<S>, table: &str) -> Option<i64> {
-    match format!(in alloc; "SELECT count(*) FROM {table}") {
-        Ok(sql) => number(conn, &sql),
-        Err(_) => None,
-    }
-}
-
-// The only number that a query finds.
-fn number<S: Alter>(conn: &mut Connection<S>, sql: &str) -> Option<i64> {
-    match conn.query_row(sql, &[]) {
+    let Ok(sql) = format!(in alloc; "SELECT count(*) FROM {table}") else {
+        return None;
+    };
+    match conn.query_row(&sql, &[]) {
         Ok(row) => row.get(0).ok(),
         Err(_) => None,
     }

@@ -1,10 +1,7 @@
-//! Tests of the outage intervals built from devices' lives and a switching log.
-use crate::example::tell;
-use std::test::Fail;
-
-// In the last case the breaker's and the switch's lives end in the second in which the tie's
-// begins.
-const BUILT: &'static str = "\
+//! Cases of the outage intervals built from devices' lives and a switching log.
+/// In the last case the breaker's and the switch's lives end in the second in which the tie's
+/// begins.
+pub const BUILT: &'static str = "\
 1970-01-01 1 | - | -
 nothing is switched => 1: S4 0 86400 -;
 1970-01-01 1 | - | switch B1 open 3600 3 K1; switch W1 open 4200 3 K1; switch T1 close 4200 3 K1; \
@@ -36,8 +33,3 @@ a day of 2024 => 4: S1 1704070800 1704071400 1; S1 1704072000 1704153600 3; \
 1970-01-01 1 | life B1 0 4000; life W1 0 4000; life T1 4000 - | switch T1 close 4000 3 K1
 lives that turn in one second take one search => 3: S1 4000 86400 -; S4 0 86400 -;
 ";
-
-#[test]
-fn runs_are_built(rt: HostRuntime) -> Result<(), Fail> {
-    tell(&rt, rt.alloc(), BUILT)
-}

@@ -1,6 +1,8 @@
-//! Tests of the sections that a change of the switching log touches, their new outage intervals,
-//! and the searches it takes.
+//! Tests of the outage intervals of a timeline; of the sections that a change of the switching log
+//! touches, their new outage intervals, and the searches it takes.
+use crate::builds::BUILT;
 use crate::example::tell;
+use crate::lives::LIVES;
 use ob_sweep::scratch_law;
 use std::test::Fail;
 
@@ -50,8 +52,12 @@ a change in a day of 2024: switch T1 close 1704071400 3 K2 => \
     4 3: S1 S2: S1 1704070800 1704071400 1; S2 1704070800 1704071400 1; S4 1704067200 1704153600 -;
 ";
 
+// With the cases of `builds.rt` and `lives.rt`.
 #[test]
-fn changes_of_the_sheet(rt: HostRuntime) -> Result<(), Fail> {
+fn runs_and_their_changes(rt: HostRuntime) -> Result<(), Fail> {
     scratch_law();
-    tell(&rt, rt.alloc(), CHANGES)
+    for text in [BUILT, CHANGES, LIVES] {
+        tell(&rt, rt.alloc(), text)?;
+    }
+    Ok(())
 }

@@ -36,16 +36,11 @@ impl<'t> Given<'t> {
         let (first, days) = period.split_once(" ").ok_or("a number of days")?;
         Ok(Given {
             first,
-            days: days_in(days)?,
+            days: u16::try_from(read_number(days.as_bytes(), 3, 1, 366).ok_or("a number")?)?,
             lives: lines_of(alloc, lives)?,
             log: lines_of(alloc, log)?,
         })
     }
-}
-
-fn days_in(text: &str) -> Result<u16, Fail> {
-    let days = read_number(text.as_bytes(), 3, 1, 366).ok_or("a number")?;
-    Ok(u16::try_from(days)?)
 }
 
 // The commands of a line, with `; ` between them, one a line; `-` for none.
@@ -54,26 +49,22 @@ fn lines_of(alloc: Global, commands: &str) -> Result<String, Fail> {
     Ok(commands.replace(alloc, "; ", "\n")?)
 }
 
-// The text of an outage interval: its section, its first second, the second after its last, and the
-// number of its cutter (the entry that began it) or `-`.
-fn text_of(alloc: Global, run: &Run) -> Result<String, Fail> {
-    let name = name_at(&NODES, run.section)?;
-    let (since, until) = (run.since, run.until);
-    let text = match run.cutter {
-        Some(cutter) => format!(in alloc; " {name} {since} {until} {cutter};"),
-        None => format!(in alloc; " {name} {since} {until} -;"),
-    };
-    Ok(text?)
-}
-
 // The name of a node in a list of all names.
 fn name_at(names: &[&'static str], node: u16) -> Result<&'static str, Fail> {
     Ok(names.get(usize::from(node)).copied().ok_or("a node")?)
 }
 
+// Adds the texts of outage intervals: the section, the first second, the second after the last, and
+// the number of the cutter (the entry that began it) or `-`.
 fn push_runs(alloc: Global, text: &mut String, runs: &[Run]) -> Result<(), Fail> {
     for run in runs {
-        text.push_str(text_of(alloc, run)?.as_str())?;
+        let name = name_at(&NODES, run.section)?;
+        let (since, until) = (run.since, run.until);
+        let part = match run.cutter {
+            Some(cutter) => format!(in alloc; " {name} {since} {until} {cutter};")?,
+            None => format!(in alloc; " {name} {since} {until} -;")?,
+        };
+        text.push_str(part.as_str())?;
     }
     Ok(())
 }

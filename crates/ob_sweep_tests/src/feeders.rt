@@ -40,13 +40,8 @@ pub fn net_of(alloc: Global, parts: &str, lives: &str) -> Result<Net, Fail> {
 // Makes the changes that a script's lines ask for.
 fn change(net: &mut Net, script: &str) -> Result<(), Fail> {
     for line in script.lines() {
-        change_one(net, line)?;
+        let command = read_body(line.as_bytes()).ok_or("a command")?;
+        change_network(net, &command)?;
     }
-    Ok(())
-}
-
-fn change_one(net: &mut Net, line: &str) -> Result<(), Fail> {
-    let command = read_body(line.as_bytes()).ok_or("a command")?;
-    change_network(net, &command)?;
     Ok(())
 }

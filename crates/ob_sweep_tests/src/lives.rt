@@ -1,12 +1,10 @@
-//! Tests of a change of the network whose devices have lives: what it touches, the new outage
+//! Cases of a change of the network whose devices have lives: what it touches, the new outage
 //! intervals, and the searches it takes.
-use crate::example::tell;
-use std::test::Fail;
-
-// In the last second, which the last case of the first log has, only the tie supplies S2. After
-// `life B1 0 4000; life T1 4000 -` the breaker's life ends in second 4000, and the tie's begins and
-// the tie is closed. With X1 up to 6000 the new device supplies S3 although its breaker is open.
-const CHANGES: &'static str = "\
+/// In the last second, which the last case of the first log has, only the tie supplies S2. After
+/// `life B1 0 4000; life T1 4000 -` the breaker's life ends in second 4000, and the tie's begins
+/// and the tie is closed. With X1 up to 6000 the new device supplies S3 although its breaker is
+/// open.
+pub const LIVES: &'static str = "\
 1970-01-01 1 | - | switch B1 open 3600 3 K1; switch W1 open 4200 3 K1; switch T1 close 4200 3 K1; \
     switch B1 close 7200 3 K1
 the tie goes while it supplies: life T1 0 6000 => \
@@ -77,8 +75,3 @@ the opening before the end of a life is withdrawn: withdraw 1 1 => \
 an opening is corrected to the end of a life: correct 1 1 open 3600 4 K1 => \
     3 3: S3: S3 3600 86400 -; S4 0 86400 -;
 ";
-
-#[test]
-fn changes_of_the_network_and_under_lives(rt: HostRuntime) -> Result<(), Fail> {
-    tell(&rt, rt.alloc(), CHANGES)
-}

@@ -25,58 +25,29 @@ fn roll_of(alloc: Global, customers: &[Customer]) -> Result<Roll, Fail> {
     Ok(roll)
 }
 
-fn has_customers(rt: &impl Abort, roll: &Roll, customers: &[Customer]) {
-    assert!(rt; roll.customers() == customers);
-}
-
 #[test]
-fn keeps_customers_by_number(rt: HostRuntime) -> Result<(), Fail> {
+fn customers_by_number(rt: HostRuntime) -> Result<(), Fail> {
     let three = service(3, 1, 0, None);
     let five = service(5, 2, 10, Some(11));
     let seven = service(7, 1, 4, Some(9));
-    let roll = roll_of(rt.alloc(), &[seven, three, five])?;
-    has_customers(&rt, &roll, &[three, five, seven]);
-    assert!(rt; roll.customer(5) == Some(five));
-    assert!(rt; roll.customer(6) == None);
-    assert!(rt; !roll.is_full());
+    let mut roll = roll_of(rt.alloc(), &[seven, three, five])?;
+    assert!(rt; roll.customers() == [three, five, seven].as_slice());
+    assert!(rt; roll.customer(5) == Some(five) && roll.customer(6) == None && !roll.is_full());
+    assert!(rt; roll.revise(5, 10, Some(13)) == Ok(()));
+    assert!(rt; roll.customer(5) == Some(service(5, 2, 10, Some(13))));
+    let roll = Roll::of_one(rt.alloc(), seven)?;
+    assert!(rt; roll.customers() == [seven].as_slice());
     Ok(())
 }
 
-#[test]
-fn holds_one_customer_alone(rt: HostRuntime) -> Result<(), Fail> {
-    let customer = Customer {
-        no: 7,
-        section: 1,
-        since: 4,
-        until: Some(9),
-    };
-    let roll = Roll::of_one(rt.alloc(), customer)?;
-    has_customers(&rt, &roll, &[customer]);
-    Ok(())
-}
-
-#[test]
-fn revises_the_service_of_one_customer(rt: HostRuntime) -> Result<(), Fail> {
-    let three = service(3, 1, 0, None);
-    let mut roll = roll_of(rt.alloc(), &[three, service(5, 1, 0, None)])?;
-    assert!(rt; roll.revise(5, 10, Some(11)) == Ok(()));
-    has_customers(&rt, &roll, &[three, service(5, 1, 10, Some(11))]);
-    Ok(())
-}
-
-// Connects a customer, which may not be refused, and ends its service at a second.
-fn add_and_serve(
-    rt: &impl Abort,
-    roll: &mut Roll,
-    customer: Customer,
-    until: Second,
-) -> Result<(), Stop> {
+// Connects a customer, which may not be refused, and ends its service in second 9.
+fn add_and_serve(rt: &impl Abort, roll: &mut Roll, customer: Customer) -> Result<(), Stop> {
     roll.reserve_one()?;
     if let Some(refusal) = roll.connect_refusal(&customer) {
         return Err(Stop::Refused(refusal));
     }
     roll.add(customer);
-    let until = Some(until);
+    let until = Some(9);
     let old = roll.customer_for(customer.no, customer.since, until)?;
     assert!(rt; old.no == customer.no && old.since == customer.since);
     roll.serve(old, Customer { until, ..old });
@@ -87,19 +58,25 @@ fn add_and_serve(
 fn adds_a_customer_and_ends_its_service(rt: HostRuntime) -> Result<(), Fail> {
     let five = service(5, 2, 10, None);
     let mut roll = roll_of(rt.alloc(), &[five])?;
-    add_and_serve(&rt, &mut roll, service(3, 1, 4, None), 9)?;
-    has_customers(&rt, &roll, &[service(3, 1, 4, Some(9)), five]);
+    add_and_serve(&rt, &mut roll, service(3, 1, 4, None))?;
+    assert!(rt; roll.customers() == [service(3, 1, 4, Some(9)), five].as_slice());
     assert!(rt; roll.served_seconds(1, 0, 20) == 5);
     Ok(())
 }
 
 // A section, the bounds of a span, and the expected seconds of service in it.
-fn serves(rt: &impl Abort, roll: &Roll, rows: &[(u16, Second, Second, u64)]) {
-    for (section, a, b, seconds) in rows {
-        assert!(rt; *b <= LAST_SECOND);
-        assert!(rt; roll.served_seconds(*section, *a, *b) == *seconds);
-    }
-}
+const SERVED: &'static [(u16, Second, Second, u64)] = &[
+    (1, 0, 10, 0),
+    (1, 0, 12, 2),
+    (1, 12, 18, 9),
+    (1, 18, 25, 9),
+    (1, 20, 25, 5),
+    (1, 25, 18, 0),
+    (2, 5, 30, 2),
+    (1, 2, 9, 0),
+    (2, 8, 30, 0),
+    (3, 0, 100, 0),
+];
 
 #[test]
 fn counts_the_seconds_of_service(rt: HostRuntime) -> Result<(), Fail> {
@@ -109,22 +86,10 @@ fn counts_the_seconds_of_service(rt: HostRuntime) -> Result<(), Fail> {
         service(3, 2, 0, Some(7)),
     ];
     let roll = roll_of(rt.alloc(), customers)?;
-    serves(
-        &rt,
-        &roll,
-        &[
-            (1, 0, 10, 0),
-            (1, 0, 12, 2),
-            (1, 12, 18, 9),
-            (1, 18, 25, 9),
-            (1, 20, 25, 5),
-            (1, 25, 18, 0),
-            (2, 5, 30, 2),
-            (1, 2, 9, 0),
-            (2, 8, 30, 0),
-            (3, 0, 100, 0),
-        ],
-    );
+    for (section, a, b, seconds) in SERVED {
+        assert!(rt; *b <= LAST_SECOND);
+        assert!(rt; roll.served_seconds(*section, *a, *b) == *seconds);
+    }
     Ok(())
 }
 
@@ -134,12 +99,6 @@ fn block(since: Second, until: Option<Second>, count: u32) -> Block {
         until,
         count,
     }
-}
-
-fn has_blocks(rt: &impl Abort, roll: &Roll, section: u16, wanted: &[Block]) -> Result<(), Fail> {
-    let blocks = roll.blocks(section)?;
-    assert!(rt; blocks.as_slice() == wanted);
-    Ok(())
 }
 
 const T: Second = 1_704_067_200;
@@ -158,14 +117,12 @@ fn counts_equal_services_once(rt: HostRuntime) -> Result<(), Fail> {
         service(9, 2, T, Some(T + 60)),
     ];
     let roll = roll_of(rt.alloc(), customers)?;
-    has_blocks(&rt, &roll, 1, &[block(T, None, 2)])?;
-    let second = &[
-        block(0, Some(T), 1),
-        block(T, None, 2),
-        block(T, Some(T + 60), 3),
-    ];
-    has_blocks(&rt, &roll, 2, second)?;
-    has_blocks(&rt, &roll, 3, &[])?;
+    let first = roll.blocks(1)?;
+    assert!(rt; first.as_slice() == [block(T, None, 2)].as_slice());
+    let second = roll.blocks(2)?;
+    let (old, two) = (block(0, Some(T), 1), block(T, None, 2));
+    assert!(rt; second.as_slice() == [old, two, block(T, Some(T + 60), 3)].as_slice());
+    assert!(rt; roll.blocks(3)?.is_empty());
     let later = SectionBlock {
         section: 4,
         block: block(7, None, 1),

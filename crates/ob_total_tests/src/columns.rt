@@ -25,11 +25,6 @@ bus,A1,BUS-A,,,,, => refused 1 BadField 1 row 1
 Span,a0,x,x,,,, => refused 1 BadField 1 row 1
 ";
 
-#[test]
-fn spans(rt: HostRuntime) -> Result<(), Fail> {
-    script(&rt, rt.alloc(), "", SPANS)
-}
-
 const SPAN: &'static str = "span,A0,100,200,,,,\n";
 
 const ROWS: &'static str = "\
@@ -57,11 +52,6 @@ connect,A1,1,S1,x,x,x, => refused 1 BadField 5 row 2
 bus,A1,B1,,,,,\"x => refused 1 BadField 8 row 2
 bus,A1,\"B1,,,,,;bus,A2,B2,,,,, => refused 1 BadField 0 row 2
 ";
-
-#[test]
-fn rows_as_a_whole(rt: HostRuntime) -> Result<(), Fail> {
-    script(&rt, rt.alloc(), SPAN, ROWS)
-}
 
 const CAUSES_AND_NODES: &'static str = "\
 cause,A1,0,STORM,,,, => refused 1 BadField 3 row 2
@@ -93,11 +83,6 @@ section,A1,S1,1,,x,, => refused 1 BadField 6 row 2
 section,A1,S1,1,,,x, => refused 1 BadField 7 row 2
 section,A1,S1,1,,,,x => refused 1 BadField 8 row 2
 ";
-
-#[test]
-fn columns_of_causes_and_nodes(rt: HostRuntime) -> Result<(), Fail> {
-    script(&rt, rt.alloc(), SPAN, CAUSES_AND_NODES)
-}
 
 const DEVICES_AND_CUSTOMERS: &'static str = "\
 device,A1,b1,GRID,S1,closed,, => refused 1 BadField 3 row 2
@@ -146,11 +131,6 @@ switch,A1,B1,open,150,3,ABCDEFGHIJKLMNOPQ, => refused 1 BadField 7 row 2
 switch,A1,B1,open,150,3,K1,x => refused 1 BadField 8 row 2
 ";
 
-#[test]
-fn columns_of_devices_and_customers(rt: HostRuntime) -> Result<(), Fail> {
-    script(&rt, rt.alloc(), SPAN, DEVICES_AND_CUSTOMERS)
-}
-
 const LIVES: &'static str = "\
 life,A1,b1,,,,, => refused 1 BadField 3 row 2
 life,A1,,,,,, => refused 1 BadField 3 row 2
@@ -175,7 +155,19 @@ device,A1,B1,GRID,S1,open,5,4 => refused 2 UnknownName row 2
 section,A1,S1,1,,,,;device,A2,B1,GRID,S1,open,00000000005,99999999999;life,A3,B1,00000000005,99999999999,,, => W 0
 ";
 
+// Bases and scripts.
+const SCRIPTS: &'static [(&'static str, &'static str)] = &[
+    ("", SPANS),
+    (SPAN, ROWS),
+    (SPAN, CAUSES_AND_NODES),
+    (SPAN, DEVICES_AND_CUSTOMERS),
+    (SPAN, LIVES),
+];
+
 #[test]
-fn columns_of_lives(rt: HostRuntime) -> Result<(), Fail> {
-    script(&rt, rt.alloc(), SPAN, LIVES)
+fn spans_rows_and_columns(rt: HostRuntime) -> Result<(), Fail> {
+    for (base, lines) in SCRIPTS {
+        script(&rt, rt.alloc(), base, lines)?;
+    }
+    Ok(())
 }

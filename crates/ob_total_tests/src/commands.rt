@@ -1,5 +1,5 @@
 //! Tests of commands on a network without an entry, and on one with an entry.
-use crate::script::{joined, script};
+use crate::script::script;
 use std::test::Fail;
 
 /// A section that is supplied over a bus, and its one customer.
@@ -66,13 +66,16 @@ switch,X,B1,open,100,3,ABCDEFGHIJKLMNOP, => W 100
 bus,X,S1,,,,,;trip,X,,,,,, => refused 3 NameTaken row 7
 ";
 
-#[test]
-fn commands_of_an_open_network(rt: HostRuntime) -> Result<(), Fail> {
-    script(&rt, rt.alloc(), FEEDER, OPEN)
-}
-
-// An opening in the switching log.
-const OPENED: &'static str = "switch,E1,B1,open,150,3,K1,\n";
+// The same with an opening in the switching log.
+const OPENED: &'static str = "\
+span,A0,100,200,,,,
+bus,A1,BUS-A,,,,,
+section,A2,S1,1,,,,
+device,A3,I1,GRID,BUS-A,closed,,
+device,A4,B1,BUS-A,S1,closed,,
+connect,C1,1,S1,0,,,
+switch,E1,B1,open,150,3,K1,
+";
 
 // The network may change after entries.
 const ENTERED: &'static str = "\
@@ -104,8 +107,13 @@ life,X,B1,,140,,, => W 60
 life,X,B1,120,120,,, => refused 18 BadLife row 8
 ";
 
+// Bases and scripts.
+const SCRIPTS: &'static [(&'static str, &'static str)] = &[(FEEDER, OPEN), (OPENED, ENTERED)];
+
 #[test]
-fn commands_behind_an_entry(rt: HostRuntime) -> Result<(), Fail> {
-    let base = joined(rt.alloc(), FEEDER, OPENED)?;
-    script(&rt, rt.alloc(), base.as_str(), ENTERED)
+fn commands_of_a_network(rt: HostRuntime) -> Result<(), Fail> {
+    for (base, lines) in SCRIPTS {
+        script(&rt, rt.alloc(), base, lines)?;
+    }
+    Ok(())
 }

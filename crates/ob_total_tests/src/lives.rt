@@ -35,11 +35,6 @@ life,L1,I1,120,,,,;life,L2,B1,,180,,, => W 40
 device,D1,B2,GRID,S1,closed,,150;life,L1,B1,150,,,,;life,L2,B2,,140,,, => W 10
 ";
 
-#[test]
-fn lives_of_a_breaker(rt: HostRuntime) -> Result<(), Fail> {
-    script(&rt, rt.alloc(), FEEDER, BREAKER)
-}
-
 // Lines whose lives end and ties whose lives begin, with two customers past B2 and one before it.
 const LINES: &'static str = "\
 life,L1,B2,,40,,, => W 120
@@ -57,11 +52,6 @@ life,L1,B2,,40,,,;switch,E1,T1,close,50,3,K1,;life,L2,T1,,80,,, => W 60
 # With the tie, S1 is supplied over S2 from 60 up to 90.
 life,L1,B1,,60,,,;switch,E1,T1,close,60,3,K1,;life,L2,T1,,90,,, => W 30
 ";
-
-#[test]
-fn lives_of_lines_and_ties(rt: HostRuntime) -> Result<(), Fail> {
-    script(&rt, rt.alloc(), TIED, LINES)
-}
 
 // Entries at the bounds of a life and outside it.
 const ENTRIES: &'static str = "\
@@ -91,7 +81,17 @@ life,L1,B2,,40,,,;connect,C4,4,S2,0,40,, => W 120
 life,L1,B2,,40,,,;connect,C4,4,S2,0,41,, => W 121
 ";
 
+// Bases and scripts.
+const SCRIPTS: &'static [(&'static str, &'static str)] = &[
+    (FEEDER, BREAKER),
+    (TIED, LINES),
+    (TIED, ENTRIES),
+];
+
 #[test]
-fn lives_and_entries(rt: HostRuntime) -> Result<(), Fail> {
-    script(&rt, rt.alloc(), TIED, ENTRIES)
+fn lives_of_devices(rt: HostRuntime) -> Result<(), Fail> {
+    for (base, lines) in SCRIPTS {
+        script(&rt, rt.alloc(), base, lines)?;
+    }
+    Ok(())
 }

@@ -1,7 +1,7 @@
 //! Scripts of lines that check what `total` answers and writes for texts.
 use ob_cli::complaint_of;
 use ob_net::Watched;
-use ob_total::{TotalStop, run_total};
+use ob_total::run_total;
 use std::alloc::{AllocError, Global};
 use std::process::Abort;
 use std::test::Fail;
@@ -15,26 +15,19 @@ pub fn says(rt: &impl Abort, alloc: Global, text: &[u8], wanted: &str) -> Result
     let mut writer = Watched::new(Vec::new(alloc));
     let answer = run_total(alloc, &mut reader, &mut writer);
     let written = writer.into_parts().0;
-    let line = line_of(alloc, &answer)?;
-    assert!(rt; line.as_str() == wanted, "{line}");
-    assert!(rt; is_written(&answer, &written, wanted.as_bytes()));
+    match answer {
+        Ok(total) => {
+            let line = format!(in alloc; "W {total}")?;
+            assert!(rt; line.as_str() == wanted, "{line}");
+            assert!(rt; written.as_slice().strip_suffix(b"\n") == Some(wanted.as_bytes()));
+        }
+        Err(stop) => {
+            let line = complaint_of(alloc, &stop.stop, stop.row)?;
+            assert!(rt; line.as_str() == wanted, "{line}");
+            assert!(rt; written.is_empty());
+        }
+    }
     Ok(())
-}
-
-// The line of an answer.
-fn line_of(alloc: Global, answer: &Result<u64, TotalStop>) -> Result<String, AllocError> {
-    match answer {
-        Ok(total) => format!(in alloc; "W {total}"),
-        Err(stop) => complaint_of(alloc, &stop.stop, stop.row),
-    }
-}
-
-// Answers whether the line of a total was written, or nothing after a refusal.
-fn is_written(answer: &Result<u64, TotalStop>, written: &[u8], line: &[u8]) -> bool {
-    match answer {
-        Ok(_) => written.strip_suffix(b"\n") == Some(line),
-        Err(_) => written.is_empty(),
-    }
 }
 
 /// Computes the total of the header, the rows of `base` and the rows of each script line. A line is
@@ -51,15 +44,9 @@ pub fn script(rt: &impl Abort, alloc: Global, base: &str, lines: &str) -> Result
     Ok(())
 }
 
-/// One text followed by another.
-pub fn joined(alloc: Global, front: &str, back: &str) -> Result<String, AllocError> {
-    let mut text = String::from_str(alloc, front)?;
-    text.push_str(back)?;
-    Ok(text)
-}
-
 fn text_of(alloc: Global, base: &str, rows: &str) -> Result<String, AllocError> {
-    let mut text = joined(alloc, HEADER, base)?;
+    let mut text = String::from_str(alloc, HEADER)?;
+    text.push_str(base)?;
     if !rows.is_empty() {
         for row in rows.split(';') {
             text.push_str(row)?;

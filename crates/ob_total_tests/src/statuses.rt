@@ -4,38 +4,46 @@ use ob_cli::{Unfinished, WrongWords, complaint_of, status_of_run};
 use ob_harness::{FAILING, Source};
 use ob_net::{Fault, Refusal, Stop, Watched};
 use ob_total::run_total;
-use std::alloc::{AllocError, Global};
+use std::alloc::Global;
 use std::io::Read;
-use std::process::Abort;
 use std::test::Fail;
 
-// Checks the line of a stop.
-fn complains(
-    rt: &impl Abort,
-    alloc: Global,
-    stop: Stop,
-    row: Option<u32>,
-    wanted: &str,
-) -> Result<(), AllocError> {
-    let line = complaint_of(alloc, &stop, row)?;
-    assert!(rt; line.as_str() == wanted);
-    Ok(())
-}
+// A stop, the row at which it came, and its line.
+const LINES: &'static [(Stop, Option<u32>, &'static str)] = &[
+    (
+        Stop::Refused(Refusal::BadField(4)),
+        Some(1),
+        "refused 1 BadField 4 row 1",
+    ),
+    (
+        Stop::Refused(Refusal::OutOfPeriod),
+        Some(24),
+        "refused 5 OutOfPeriod row 24",
+    ),
+    (
+        Stop::Refused(Refusal::Full(1_000_000)),
+        None,
+        "refused 12 Full 1000000",
+    ),
+    (
+        Stop::Refused(Refusal::OldVersion(1)),
+        None,
+        "refused 19 OldVersion 1",
+    ),
+    (
+        Stop::Refused(Refusal::OutOfPeriod),
+        None,
+        "refused 5 OutOfPeriod",
+    ),
+    (Stop::Fault(Fault::Input), None, "fault 23 Input"),
+];
 
 #[test]
 fn a_complaint_has_number_name_detail_and_row(rt: HostRuntime) -> Result<(), Fail> {
-    let late = Stop::Refused(Refusal::OutOfPeriod);
-    let bad_field = Stop::Refused(Refusal::BadField(4));
-    let full = Stop::Refused(Refusal::Full(1_000_000));
-    let old_version = Stop::Refused(Refusal::OldVersion(1));
-    let alloc = rt.alloc();
-    complains(&rt, alloc, bad_field, Some(1), "refused 1 BadField 4 row 1")?;
-    complains(&rt, alloc, late, Some(24), "refused 5 OutOfPeriod row 24")?;
-    complains(&rt, alloc, full, None, "refused 12 Full 1000000")?;
-    complains(&rt, alloc, old_version, None, "refused 19 OldVersion 1")?;
-    complains(&rt, alloc, late, None, "refused 5 OutOfPeriod")?;
-    let input = Stop::Fault(Fault::Input);
-    complains(&rt, alloc, input, None, "fault 23 Input")?;
+    for (stop, row, wanted) in LINES {
+        let line = complaint_of(rt.alloc(), stop, *row)?;
+        assert!(rt; line.as_str() == *wanted);
+    }
     Ok(())
 }
 
@@ -57,25 +65,18 @@ fn statuses_of_runs(rt: HostRuntime) {
     assert!(rt; status_after(alloc, &mut failing) == 1);
 }
 
-// The exit status after a stop.
-fn status_of(stop: Stop) -> u8 {
-    status_of_run(&Err(Unfinished::Stopped(stop, None)))
-}
-
-#[test]
-fn statuses_of_stops(rt: HostRuntime) {
-    assert!(rt; status_of(Stop::Refused(Refusal::NameTaken)) == 2);
-    assert!(rt; status_of(Stop::Fault(Fault::Output)) == 1);
-    assert!(rt; status_of_run(&Err(Unfinished::Differs)) == 2);
-}
-
 // Answers whether wrong arguments have this status, both alone and as the end of the program.
 fn ends_with(wrong: WrongWords, wanted: u8) -> bool {
     wrong.status() == wanted && status_of_run(&Err(Unfinished::Words(wrong))) == wanted
 }
 
 #[test]
-fn statuses_of_words(rt: HostRuntime) {
+fn statuses_of_stops_and_words(rt: HostRuntime) {
+    let refused = Unfinished::Stopped(Stop::Refused(Refusal::NameTaken), None);
+    assert!(rt; status_of_run(&Err(refused)) == 2);
+    let failed = Unfinished::Stopped(Stop::Fault(Fault::Output), None);
+    assert!(rt; status_of_run(&Err(failed)) == 1);
+    assert!(rt; status_of_run(&Err(Unfinished::Differs)) == 2);
     assert!(rt; ends_with(WrongWords::Help(String::new(rt.alloc())), 0));
     assert!(rt; ends_with(WrongWords::Version(String::new(rt.alloc())), 0));
     assert!(rt; ends_with(WrongWords::Wrong(String::new(rt.alloc())), 64));

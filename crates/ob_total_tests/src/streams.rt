@@ -54,14 +54,10 @@ fn writers_that_fail(rt: HostRuntime) {
         assert!(rt; stops_for_output(rt.alloc(), room, JOLTING));
         assert!(rt; stops_for_output(rt.alloc(), room, FAILING));
     }
-}
-
-#[test]
-fn slow_streams(rt: HostRuntime) {
+    // One that takes all, and a reader, both slow.
     let mut reader = Watched::new(Source::new(SMALL, JOLTING));
     let mut writer = Watched::new(Sink::new(rt.alloc(), 5, JOLTING));
-    let answer = run_total(rt.alloc(), &mut reader, &mut writer);
-    assert!(rt; answer == Ok(10));
+    assert!(rt; run_total(rt.alloc(), &mut reader, &mut writer) == Ok(10));
     assert!(rt; writer.into_parts().0.taken.as_slice() == b"W 10\n".as_slice());
 }
 

@@ -1,5 +1,5 @@
 //! Tests of totals of switching and of service.
-use crate::script::{joined, script};
+use crate::script::script;
 use std::test::Fail;
 
 /// Two sections in a row, with one customer and two, and a tie from the bus to the second section.
@@ -47,12 +47,19 @@ device,A8,P1,S1,S2,closed,,;switch,E1,B2,open,10,3,K1, => W 0
 device,A8,P1,S1,S2,closed,,;switch,E1,B2,open,10,3,K1,;switch,E2,P1,open,30,3,K1, => W 140
 ";
 
-#[test]
-fn totals_of_switching(rt: HostRuntime) -> Result<(), Fail> {
-    script(&rt, rt.alloc(), TIED, SWITCHING)
-}
-
+// The same with S2 without supply from 20 to 60: 80 customer-seconds for its two customers.
 const OUTAGE: &'static str = "\
+span,A0,0,100,,,,
+bus,A1,BUS-A,,,,,
+section,A2,S1,1,,,,
+section,A3,S2,1,,,,
+device,A4,I1,GRID,BUS-A,closed,,
+device,A5,B1,BUS-A,S1,closed,,
+device,A6,B2,S2,S1,closed,,
+device,A7,T1,BUS-A,S2,open,,
+connect,C1,1,S1,0,,,
+connect,C2,2,S2,0,,,
+connect,C3,3,S2,0,,,
 switch,E1,B2,open,20,3,K1,
 switch,E2,B2,close,60,3,K1,
 ";
@@ -70,9 +77,13 @@ connect,C4,4,S1,30,40,, => W 80
 connect,C5,5,S2,58,,,;connect,C4,4,S2,0,22,, => W 84
 ";
 
-// S2 is without supply from 20 to 60: 80 customer-seconds for its two customers.
+// Bases and scripts.
+const SCRIPTS: &'static [(&'static str, &'static str)] = &[(TIED, SWITCHING), (OUTAGE, SERVICE)];
+
 #[test]
-fn totals_of_service(rt: HostRuntime) -> Result<(), Fail> {
-    let base = joined(rt.alloc(), TIED, OUTAGE)?;
-    script(&rt, rt.alloc(), base.as_str(), SERVICE)
+fn totals_of_switching_and_service(rt: HostRuntime) -> Result<(), Fail> {
+    for (base, lines) in SCRIPTS {
+        script(&rt, rt.alloc(), base, lines)?;
+    }
+    Ok(())
 }

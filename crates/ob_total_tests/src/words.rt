@@ -52,6 +52,10 @@ fn told(alloc: Global, job: &Job) -> Result<String, AllocError> {
     }
 }
 
+fn two_words(alloc: Global, job: &str, book: &str, other: &str) -> Result<String, AllocError> {
+    format!(in alloc; "{job} {book} {other}")
+}
+
 fn by_word(by: By) -> &'static str {
     match by {
         By::Whole => "whole",
@@ -61,10 +65,6 @@ fn by_word(by: By) -> &'static str {
         By::Cause => "cause",
         By::Section => "section",
     }
-}
-
-fn two_words(alloc: Global, job: &str, book: &str, other: &str) -> Result<String, AllocError> {
-    format!(in alloc; "{job} {book} {other}")
 }
 
 // Arguments, and the job that they name with all that it is given.
@@ -93,14 +93,6 @@ outagebook serve --port=8080 => serve book.db 8080 0
 outagebook serve --port 0 --streams 1 => serve book.db 0 1
 outagebook serve --streams=18446744073709551615 --port 65535 --book a.db => serve a.db 65535 18446744073709551615
 ";
-
-#[test]
-fn reads_jobs(rt: HostRuntime) -> Result<(), AllocError> {
-    are_answered(&rt, rt.alloc(), "job", JOBS)?;
-    let (kind, job) = answer(rt.alloc(), &["outagebook", "table", "--book", "a b.db"])?;
-    assert!(rt; kind == "job" && job.as_str() == "table a b.db -");
-    Ok(())
-}
 
 // Arguments that are refused, and a text that the message contains.
 const REFUSED: &'static str = "\
@@ -188,20 +180,20 @@ fn are_answered(rt: &impl Abort, alloc: Global, kind: &str, lines: &str) -> Resu
     Ok(())
 }
 
-#[test]
-fn refuses_words(rt: HostRuntime) -> Result<(), AllocError> {
-    let (kind, text) = answer(rt.alloc(), &[])?;
-    assert!(rt; kind == "wrong" && text.contains("Usage: outagebook"));
-    are_answered(&rt, rt.alloc(), "wrong", REFUSED)
-}
-
-#[test]
-fn shows_help(rt: HostRuntime) -> Result<(), AllocError> {
-    are_answered(&rt, rt.alloc(), "help", HELP)
-}
-
 // The version that is printed: the program's, and that of its books.
 const VERSION: &str = "outagebook 2 (books of version 2)\n";
+
+#[test]
+fn reads_jobs_refuses_words_and_shows_help(rt: HostRuntime) -> Result<(), AllocError> {
+    for (kind, lines) in [("job", JOBS), ("wrong", REFUSED), ("help", HELP)] {
+        are_answered(&rt, rt.alloc(), kind, lines)?;
+    }
+    let (kind, job) = answer(rt.alloc(), &["outagebook", "table", "--book", "a b.db"])?;
+    assert!(rt; kind == "job" && job.as_str() == "table a b.db -");
+    let (kind, text) = answer(rt.alloc(), &[])?;
+    assert!(rt; kind == "wrong" && text.contains("Usage: outagebook"));
+    Ok(())
+}
 
 #[test]
 fn tells_its_version(rt: HostRuntime) -> Result<(), AllocError> {

@@ -32,26 +32,6 @@ mark 2024-02-29 K1
 unmark 2024-02-29 K1
 mark 0000-02-29 K1";
 
-// The interval from one second until before another.
-fn service(since: Second, until: Second) -> Option<Service> {
-    Some(Service {
-        since: Moment::new(since)?,
-        until: Moment::new(until),
-    })
-}
-
-fn connection() -> Option<Command> {
-    Some(Command::Connect {
-        customer: Serial::new(11)?,
-        section: Name::read(b"S3")?,
-        service: service(7, 9)?,
-    })
-}
-
-fn ends(a: &[u8], b: &[u8]) -> Option<Ends> {
-    Ends::new(Name::read(a)?, Name::read(b)?)
-}
-
 // The eight fields of a row.
 fn row_of(line: &str) -> [&[u8]; 8] {
     let mut row: [&[u8]; 8] = [b""; 8];
@@ -69,13 +49,6 @@ fn has_body(rt: &impl Abort, alloc: Global, command: &Command, body: &[u8]) -> R
     Ok(())
 }
 
-// Checks the leftmost bad column of each row.
-fn are_bad(rt: &impl Abort, rows: &[(&str, u8)]) {
-    for (row, column) in rows {
-        assert!(rt; read_row(&row_of(row)).err() == Some(Refusal::BadField(*column)));
-    }
-}
-
 #[test]
 fn bodies_and_back(rt: HostRuntime) -> Result<(), Fail> {
     bodies_law();
@@ -86,8 +59,8 @@ fn bodies_and_back(rt: HostRuntime) -> Result<(), Fail> {
     Ok(())
 }
 
-// Rows without quotes, with the reference and the body expected from each. The last four are of
-// moments 5,000 and 6,000 seconds after 2024 began.
+// Rows without quotes, with the reference and the body expected from each, or its leftmost bad
+// column. The last four bodies are of moments 5,000 and 6,000 seconds after 2024 began.
 const ROWS: &'static str = "\
 cause,R1,03,STORM,,,, => R1 cause 3 STORM
 section,R2,S1,007,,,, => R2 section S1 7
@@ -104,15 +77,55 @@ device,R1,X1,BUS-A,S1,closed,2024-01-01T01:23:20Z, => R1 device X1 BUS-A S1 clos
 device,R2,X1,BUS-A,S1,open,,2024-01-01T02:40:00+01:00 => R2 device X1 BUS-A S1 open 0 1704073200
 life,R3,T1,2024-01-01T01:23:20Z,1704073200,,, => R3 life T1 1704072200 1704073200
 life,R4,T1,,2024-01-01T01:40:00Z,,, => R4 life T1 0 1704073200
+fuse,,,,,,, => BadField 1
+,R1,,,,,, => BadField 1
+bus,r1,,,,,,x => BadField 2
+bus,R1,,,,,,x => BadField 3
+bus,R1,B1, ,,,,x => BadField 4
+bus,R1,B1,,,,,x => BadField 8
+cause,R1,64,STORM,,,, => BadField 3
+cause,R1,3,AAAAAAAAAAAAAAAAAAAAAAAAA,,,, => BadField 4
+device,R1,X1,S1,S1,open,, => BadField 5
+device,R1,B1,s1,S1,shut,, => BadField 4
+device,R1,B1,S1,S2,shut,, => BadField 6
+device,R1,B1,S1,S2,shut,x,x => BadField 6
+device,R1,B1,S1,S2,open,-,- => BadField 7
+device,R1,B1,S1,S2,open,100000000000, => BadField 7
+device,R1,B1,S1,S2,open,,- => BadField 8
+device,R1,B1,S1,S2,open,0,2024-02-30T00:00:00Z => BadField 8
+lives,R1,T1,,,,, => BadField 1
+life,,T1,,,,, => BadField 2
+life,R1,,-,,,, => BadField 3
+life,R1,T1,-,-,,, => BadField 4
+life,R1,T1,,-,x,, => BadField 5
+life,R1,T1,,,x,, => BadField 6
+life,R1,T1,0,,,x, => BadField 7
+life,R1,T1,,1,,,x => BadField 8
+connect,R1,1,S1,,-,, => BadField 5
+connect,R1,1,S1,0,-,, => BadField 6
+revise,R1,0,x,-,,, => BadField 3
+switch,R1,B1,open,3600,3,K1,x => BadField 8
+correct,R1,1,1,open,0,3, => BadField 8
+mark,R1,2024-02-30,,,,, => BadField 3
 ";
 
-// Checks the reference and the body of a row.
+// Checks the reference and the body of a row, or its leftmost bad column.
 fn says(rt: &impl Abort, alloc: Global, line: &str) -> Result<(), Fail> {
     let (row, wanted) = line.split_once(" => ").ok_or("a line")?;
-    let (reference, body) = wanted.split_once(" ").ok_or("a body")?;
-    let (found, command) = read_row(&row_of(row))?;
-    assert!(rt; found.bytes() == reference.as_bytes());
-    has_body(rt, alloc, &command, body.as_bytes())?;
+    let (first, rest) = wanted.split_once(" ").ok_or("a body")?;
+    match read_row(&row_of(row)) {
+        Ok((reference, command)) => {
+            assert!(rt; reference.bytes() == first.as_bytes(), "{line}");
+            has_body(rt, alloc, &command, rest.as_bytes())?;
+        }
+        Err(refusal) => {
+            let column = rest.parse().map_err(|_| "a column")?;
+            assert!(rt;
+                first == "BadField" && refusal == Refusal::BadField(column),
+                "{line}"
+            );
+        }
+    }
     Ok(())
 }
 
@@ -125,46 +138,8 @@ fn rows(rt: HostRuntime) -> Result<(), Fail> {
     Ok(())
 }
 
-#[test]
-fn bad_rows(rt: HostRuntime) {
-    are_bad(
-        &rt,
-        &[
-            ("fuse,,,,,,,", 1),
-            (",R1,,,,,,", 1),
-            ("bus,r1,,,,,,x", 2),
-            ("bus,R1,,,,,,x", 3),
-            ("bus,R1,B1, ,,,,x", 4),
-            ("bus,R1,B1,,,,,x", 8),
-            ("cause,R1,64,STORM,,,,", 3),
-            ("cause,R1,3,AAAAAAAAAAAAAAAAAAAAAAAAA,,,,", 4),
-            ("device,R1,X1,S1,S1,open,,", 5),
-            ("device,R1,B1,s1,S1,shut,,", 4),
-            ("device,R1,B1,S1,S2,shut,,", 6),
-            ("device,R1,B1,S1,S2,shut,x,x", 6),
-            ("device,R1,B1,S1,S2,open,-,-", 7),
-            ("device,R1,B1,S1,S2,open,100000000000,", 7),
-            ("device,R1,B1,S1,S2,open,,-", 8),
-            ("device,R1,B1,S1,S2,open,0,2024-02-30T00:00:00Z", 8),
-            ("lives,R1,T1,,,,,", 1),
-            ("life,,T1,,,,,", 2),
-            ("life,R1,,-,,,,", 3),
-            ("life,R1,T1,-,-,,,", 4),
-            ("life,R1,T1,,-,x,,", 5),
-            ("life,R1,T1,,,x,,", 6),
-            ("life,R1,T1,0,,,x,", 7),
-            ("life,R1,T1,,1,,,x", 8),
-            ("connect,R1,1,S1,,-,,", 5),
-            ("connect,R1,1,S1,0,-,,", 6),
-            ("revise,R1,0,x,-,,,", 3),
-            ("switch,R1,B1,open,3600,3,K1,x", 8),
-            ("correct,R1,1,1,open,0,3,", 8),
-            ("mark,R1,2024-02-30,,,,,", 3),
-        ],
-    );
-}
-
-// Texts that are no bodies, between bars.
+// Texts that are no bodies, between bars; one of them is the end of each line. The bodies of
+// `device` and `life` need a beginning and an end.
 const NO_BODIES: &'static str = "\
 || |cause|cause 3|cause  STORM|cause 3 |cause 3 STORM | cause 3 STORM|cause  3 STORM|
 |cause 3  STORM|cause 3\tSTORM|cause 03 STORM|cause 0 STORM|cause 64 STORM|cause +3 STORM|
@@ -177,10 +152,6 @@ const NO_BODIES: &'static str = "\
 |switch B1 opened 1704070800 3 K1|switch B1 closed 1704070800 3 K1|
 |correct 4 close 1704073800 3 K1|correct 4 1 close 1704073800 3 K1 K1|mark 2024-02-30 K1|
 |mark 24-02-29 K1|
-";
-
-// The bodies of `device` and `life` need a beginning and an end.
-const NO_BODIES_OF_LIVES: &'static str = "\
 |device X1 BUS-A S1 closed|device X1 BUS-A S1 closed |device X1 BUS-A S1 closed 1704072200|
 |device X1 BUS-A S1 closed 1704072200 |device X1 BUS-A S1 closed  -|
 |device X1 BUS-A S1 closed - -|device X1 BUS-A S1 closed 00 -|device X1 BUS-A S1 closed 0 01|
@@ -189,70 +160,56 @@ const NO_BODIES_OF_LIVES: &'static str = "\
 |life T1 100000000000 -|life T1 0 - |life T1 0 - -|life t1 0 -|
 ";
 
-// Checks that the texts between the bars are no bodies; one of them is the end of each line.
-fn are_no_bodies(rt: &impl Abort, texts: &str) {
-    for text in texts.split('|') {
+#[test]
+fn no_bodies(rt: HostRuntime) {
+    for text in NO_BODIES.split('|') {
         assert!(rt; read_body(text.as_bytes()).is_none(), "{text}");
     }
 }
 
 #[test]
-fn no_bodies(rt: HostRuntime) {
-    are_no_bodies(&rt, NO_BODIES);
-    are_no_bodies(&rt, NO_BODIES_OF_LIVES);
-}
-
-#[test]
-fn a_command_by_its_fields(rt: HostRuntime) -> Result<(), Fail> {
-    let command = connection().ok_or("a command")?;
+fn a_connection_by_its_fields(rt: HostRuntime) -> Result<(), Fail> {
+    let service = Service {
+        since: Moment::new(7).ok_or("a moment")?,
+        until: Moment::new(9),
+    };
+    let life = Life {
+        since: 7,
+        until: Some(9),
+    };
+    assert!(rt; service.end() == Some(9) && service.life() == life);
+    let command = Command::Connect {
+        customer: Serial::new(11).ok_or("a number")?,
+        section: Name::read(b"S3").ok_or("a name")?,
+        service,
+    };
     has_body(&rt, rt.alloc(), &command, b"connect 11 S3 7 9")?;
     Ok(())
 }
 
 #[test]
-fn seconds_of_a_service(rt: HostRuntime) -> Result<(), Fail> {
-    let served = service(7, 9).ok_or("a service")?;
-    let life = Life {
-        since: 7,
-        until: Some(9),
-    };
-    assert!(rt; served.end() == Some(9) && served.life() == life);
-    Ok(())
-}
-
-#[test]
-fn numbers(rt: HostRuntime) -> Result<(), Fail> {
+fn numbers_and_moments(rt: HostRuntime) -> Result<(), Fail> {
     let cause = CauseCode::new(63).ok_or("a cause")?;
     assert!(rt; cause.get() == 63 && CauseCode::new(64).is_none());
     let feeder = FeederNumber::new(7).ok_or("a feeder")?;
     assert!(rt; feeder.get() == 7 && FeederNumber::new(0).is_none());
     let serial = Serial::new(4_294_967_295).ok_or("a number")?;
     assert!(rt; serial.get() == 4_294_967_295 && Serial::new(0).is_none());
-    Ok(())
-}
-
-fn civil_date(year: i16, month: i8, day: i8) -> Option<CivilDate> {
-    match Date::new(year, month, day) {
-        Ok(date) => CivilDate::new(date),
-        Err(_) => None,
-    }
-}
-
-#[test]
-fn moments_and_dates(rt: HostRuntime) -> Result<(), Fail> {
     let moment = Moment::new(7).ok_or("a moment")?;
     assert!(rt; moment.second() == 7 && Moment::new(LAST_SECOND + 1).is_none());
-    let date = civil_date(2024, 2, 29).ok_or("a date")?.date();
-    assert!(rt; (date.year(), date.month(), date.day()) == (2024, 2, 29));
-    assert!(rt; civil_date(-1, 12, 31).is_none());
     Ok(())
 }
 
 #[test]
-fn ends_of_a_device(rt: HostRuntime) -> Result<(), Fail> {
-    assert!(rt; ends(b"S1", b"S1").is_none());
-    let ends = ends(b"S1", b"S2").ok_or("two ends")?;
-    assert!(rt; ends.a().bytes() == b"S1".as_slice());
-    assert!(rt; ends.b().bytes() == b"S2".as_slice());
+fn dates_and_ends(rt: HostRuntime) -> Result<(), Fail> {
+    let date = CivilDate::new(Date::new(2024, 2, 29)?)
+        .ok_or("a date")?
+        .date();
+    assert!(rt; (date.year(), date.month(), date.day()) == (2024, 2, 29));
+    assert!(rt; CivilDate::new(Date::new(-1, 12, 31)?).is_none());
+    let a = Name::read(b"S1").ok_or("a name")?;
+    let b = Name::read(b"S2").ok_or("a name")?;
+    let ends = Ends::new(a, b).ok_or("two ends")?;
+    assert!(rt; *ends.a() == a && *ends.b() == b && Ends::new(a, a).is_none());
     Ok(())
 }

@@ -8,8 +8,6 @@
 #[cfg(test)]
 mod commands;
 #[cfg(test)]
-mod dates;
-#[cfg(test)]
 mod fields;
 #[cfg(test)]
 mod intervals;

@@ -7,20 +7,40 @@ use std::alloc::Global;
 use std::process::Abort;
 use std::test::Fail;
 
-fn life(since: Second, until: Option<Second>) -> Life {
-    Life { since, until }
-}
+// The lives of the three devices below, and two others.
+const FIRST: Life = Life {
+    since: 0,
+    until: None,
+};
+
+const SECOND: Life = Life {
+    since: 10,
+    until: Some(20),
+};
+
+const THIRD: Life = Life {
+    since: 15,
+    until: None,
+};
+
+const SHORT: Life = Life {
+    since: 3,
+    until: Some(4),
+};
+
+const EMPTY: Life = Life {
+    since: 9,
+    until: Some(9),
+};
 
 #[test]
 fn a_life(rt: HostRuntime) {
-    let short = life(10, Some(20));
-    assert!(rt; !short.holds(9) && short.holds(10) && short.holds(19) && !short.holds(20));
-    assert!(rt; short.ends_later() && !life(10, Some(10)).ends_later());
-    assert!(rt; short.next_turn(9, 30) == 10 && short.next_turn(10, 30) == 20);
-    assert!(rt; short.next_turn(20, 30) == 30 && short.next_turn(12, 15) == 15);
-    let endless = life(10, None);
-    assert!(rt; !endless.holds(9) && endless.holds(10) && endless.ends_later());
-    assert!(rt; endless.next_turn(0, 30) == 10 && endless.next_turn(10, 30) == 30);
+    assert!(rt; !SECOND.holds(9) && SECOND.holds(10) && SECOND.holds(19) && !SECOND.holds(20));
+    assert!(rt; SECOND.ends_later() && !EMPTY.ends_later());
+    assert!(rt; SECOND.next_turn(9, 30) == 10 && SECOND.next_turn(10, 30) == 20);
+    assert!(rt; SECOND.next_turn(20, 30) == 30 && SECOND.next_turn(12, 15) == 15);
+    assert!(rt; !THIRD.holds(14) && THIRD.holds(15) && THIRD.ends_later());
+    assert!(rt; THIRD.next_turn(0, 30) == 15 && THIRD.next_turn(15, 30) == 30);
 }
 
 // Three parallel devices.
@@ -37,136 +57,86 @@ fn three(rt: &impl Abort, alloc: Global) -> Result<Net, Fail> {
     Ok(net)
 }
 
-// Checks that a device has this name, this life and its normal position.
-fn is_device(rt: &impl Abort, net: &Net, device: u16, name: &[u8], life: Life) {
-    assert!(rt; device < net.devices());
-    assert!(rt; net.device_name(device).bytes() == name);
-    assert!(rt; net.normal(device) == Closed);
-    assert!(rt; net.life_of(device) == life);
+// Checks that the devices have their normal positions and these lives.
+fn have_lives(rt: &impl Abort, net: &Net, lives: &[Life]) {
+    assert!(rt; net.nodes() == 2 && net.devices() == 3 && net.searches() == 0);
+    for device in 0..net.devices() {
+        assert!(rt; net.normal(device) == Closed);
+        assert!(rt; lives.get(usize::from(device)).copied() == Some(net.life_of(device)));
+    }
 }
 
-fn have_lives(rt: &impl Abort, net: &Net, lives: &[Life; 3]) {
-    is_device(rt, net, 0, b"D1", lives[0]);
-    is_device(rt, net, 1, b"D2", lives[1]);
-    is_device(rt, net, 2, b"D3", lives[2]);
-    assert!(rt; net.nodes() == 2 && net.devices() == 3);
-    assert!(rt; net.searches() == 0);
-}
+const BAD: Result<(), Refusal> = Err(Refusal::BadLife);
+
+// A device, its new life, the expected answer, and the lives of all three devices after it.
+const SETTINGS: &'static [(u16, Life, Result<(), Refusal>, &'static [Life])] = &[
+    (1, EMPTY, BAD, &[FIRST, SECOND, THIRD]),
+    (1, SHORT, Ok(()), &[FIRST, SHORT, THIRD]),
+    (1, EMPTY, BAD, &[FIRST, SHORT, THIRD]),
+    (0, EMPTY, BAD, &[FIRST, SHORT, THIRD]),
+    (0, THIRD, Ok(()), &[THIRD, SHORT, THIRD]),
+    (2, SHORT, Ok(()), &[THIRD, SHORT, SHORT]),
+    (1, SECOND, Ok(()), &[THIRD, SECOND, SHORT]),
+];
 
 #[test]
 fn each_device_has_its_life(rt: HostRuntime) -> Result<(), Fail> {
-    let net = three(&rt, rt.alloc())?;
-    let lives = [life(0, None), life(10, Some(20)), life(15, None)];
-    have_lives(&rt, &net, &lives);
-    Ok(())
-}
-
-// A device, its new life, the expected answer, and the lives of all three devices after it.
-type LifeRow = (u16, Life, Result<(), Refusal>, [Life; 3]);
-
-fn set_lives(rt: &impl Abort, net: &mut Net, rows: &[LifeRow]) {
-    for (device, life, wanted, lives) in rows {
+    let mut net = three(&rt, rt.alloc())?;
+    for (device, life, wanted, lives) in SETTINGS {
         assert!(rt; *device < net.devices());
         assert!(rt; net.set_life(*device, *life) == *wanted);
-        have_lives(rt, net, lives);
+        have_lives(&rt, &net, lives);
     }
-}
-
-#[test]
-fn a_life_is_set_anew(rt: HostRuntime) -> Result<(), Fail> {
-    let mut net = three(&rt, rt.alloc())?;
-    let (first, second, third) = (life(0, None), life(10, Some(20)), life(15, None));
-    let (short, late) = (life(3, Some(4)), life(7, None));
-    let bad = Err(Refusal::BadLife);
-    set_lives(
-        &rt,
-        &mut net,
-        &[
-            (1, short, Ok(()), [first, short, third]),
-            (1, life(9, Some(9)), bad, [first, short, third]),
-            (0, life(9, Some(8)), bad, [first, short, third]),
-            (0, late, Ok(()), [late, short, third]),
-            (2, short, Ok(()), [late, short, short]),
-            (1, second, Ok(()), [late, second, short]),
-        ],
-    );
-    give_life(&rt, &mut net, 1, short);
-    have_lives(&rt, &net, &[late, short, short]);
+    assert!(rt; net.devices() == 3 && SHORT.ends_later());
+    net.give_life(1, SHORT);
+    have_lives(&rt, &net, &[THIRD, SHORT, SHORT]);
     Ok(())
 }
 
-fn give_life(rt: &impl Abort, net: &mut Net, device: u16, life: Life) {
-    assert!(rt; device < net.devices());
-    assert!(rt; life.ends_later());
-    net.give_life(device, life);
-}
+const CLOSED: &'static [Pos] = &[Closed, Closed, Closed];
 
 // A second, positions, and the same positions with each device open that is outside its life at
 // this second.
-type OpenRow = (Second, [Pos; 3], [Pos; 3]);
-
-fn opens_outside(
-    rt: &impl Abort,
-    net: &Net,
-    second: Second,
-    mut positions: [Pos; 3],
-    wanted: &[Pos; 3],
-) {
-    assert!(rt; net.devices() == 3);
-    net.open_outside_lives(second, &mut positions);
-    assert!(rt; positions == *wanted);
-}
-
-fn open_outside(rt: &impl Abort, net: &Net, rows: &[OpenRow]) {
-    for (second, positions, wanted) in rows {
-        opens_outside(rt, net, *second, *positions, wanted);
-    }
-}
+const OPEN: &'static [(Second, &'static [Pos], &'static [Pos])] = &[
+    (9, CLOSED, &[Closed, Opened, Opened]),
+    (10, CLOSED, &[Closed, Closed, Opened]),
+    (15, CLOSED, CLOSED),
+    (19, &[Opened, Closed, Opened], &[Opened, Closed, Opened]),
+    (20, CLOSED, &[Closed, Opened, Closed]),
+    (20, &[Opened, Opened, Closed], &[Opened, Opened, Closed]),
+];
 
 #[test]
 fn devices_are_open_outside_their_lives(rt: HostRuntime) -> Result<(), Fail> {
     let net = three(&rt, rt.alloc())?;
-    let closed = [Closed, Closed, Closed];
-    open_outside(
-        &rt,
-        &net,
-        &[
-            (9, closed, [Closed, Opened, Opened]),
-            (10, closed, [Closed, Closed, Opened]),
-            (15, closed, closed),
-            (19, [Opened, Closed, Opened], [Opened, Closed, Opened]),
-            (20, closed, [Closed, Opened, Closed]),
-            (20, [Opened, Opened, Closed], [Opened, Opened, Closed]),
-        ],
-    );
+    for (second, positions, wanted) in OPEN {
+        let mut found = Vec::from_slice(rt.alloc(), positions)?;
+        assert!(rt; found.len() == usize::from(net.devices()));
+        net.open_outside_lives(*second, &mut found);
+        assert!(rt; found.as_slice() == *wanted);
+    }
     Ok(())
 }
 
 // A second, an end, and the first second after the given one and before the end at which a life
 // begins or ends, or else the end.
-fn turns(rt: &impl Abort, net: &Net, rows: &[(Second, Second, Second)]) {
-    for (after, end, wanted) in rows {
-        assert!(rt; *after < *end);
-        assert!(rt; net.next_turn(*after, *end) == *wanted);
-    }
-}
+const TURNS: &'static [(Second, Second, Second)] = &[
+    (0, 100, 10),
+    (10, 100, 15),
+    (14, 100, 15),
+    (15, 100, 20),
+    (20, 100, 100),
+    (0, 10, 10),
+    (0, 9, 9),
+    (16, 17, 17),
+];
 
 #[test]
 fn turns_of_all_lives(rt: HostRuntime) -> Result<(), Fail> {
     let net = three(&rt, rt.alloc())?;
-    turns(
-        &rt,
-        &net,
-        &[
-            (0, 100, 10),
-            (10, 100, 15),
-            (14, 100, 15),
-            (15, 100, 20),
-            (20, 100, 100),
-            (0, 10, 10),
-            (0, 9, 9),
-            (16, 17, 17),
-        ],
-    );
+    for (after, end, wanted) in TURNS {
+        assert!(rt; *after < *end);
+        assert!(rt; net.next_turn(*after, *end) == *wanted);
+    }
     Ok(())
 }

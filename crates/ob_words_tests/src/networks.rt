@@ -1,6 +1,5 @@
 //! Tests of the network: its parts by name and by number, and the nodes that are supplied. Its
 //! limits are tested in `ob_total_tests`.
-ghost use Rattle.std.specs.Prelude.{◌≡◌, ◌≤◌, []};
 ghost use Rattle.ob_net.specs.Supplies.{IsOf};
 
 use ob_command::{Command, NewDevice, read_body};
@@ -48,10 +47,16 @@ fn add(net: &mut Net, body: &str) -> Result<Option<Refusal>, Fail> {
     }
 }
 
-/// Adds the parts that body texts name, one a line.
+/// Adds the parts that body texts name, one a line; a line may end with ` => ` and the name of the
+/// expected refusal.
 pub fn add_all(rt: &impl Abort, net: &mut Net, script: &str) -> Result<(), Fail> {
-    for body in script.lines() {
-        assert!(rt; add(net, body)? == None);
+    for line in script.lines() {
+        let (body, wanted) = line.split_once(" => ").unwrap_or((line, ""));
+        let found = match add(net, body)? {
+            Some(refusal) => refusal.name(),
+            None => "",
+        };
+        assert!(rt; found == wanted, "{line}: {found}");
     }
     Ok(())
 }
@@ -62,154 +67,108 @@ fn meshed(rt: &impl Abort, alloc: Global) -> Result<Net, Fail> {
     Ok(net)
 }
 
-fn counts(rt: &impl Abort, net: &Net, nodes: u16, devices: u16, searches: u128) {
-    assert!(rt; net.nodes() == nodes);
-    assert!(rt; net.devices() == devices);
-    assert!(rt; net.searches() == searches);
-}
+// A name; the number and the feeder of the node that has it, or None; the number and the normal
+// position of the device that has it, or None.
+type Part<'t> = (&'t [u8], Option<(u16, Option<u8>)>, Option<(u16, Pos)>);
 
-fn node_of(net: &Net, text: &[u8]) -> Option<u16> {
-    net.node_of(&Name::read(text)?)
-}
-
-fn device_of(net: &Net, text: &[u8]) -> Option<u16> {
-    net.device_of(&Name::read(text)?)
-}
-
-fn is_node(rt: &impl Abort, net: &Net, node: u16, text: &[u8], feeder: Option<u8>) {
-    assert!(rt; node_of(net, text) == Some(node) && device_of(net, text) == None);
-    assert!(rt; node < net.nodes());
-    assert!(rt; net.feeder_of(node) == feeder);
-}
-
-fn is_device(rt: &impl Abort, net: &Net, device: u16, text: &[u8], normal: Pos) {
-    assert!(rt; device_of(net, text) == Some(device) && node_of(net, text) == None);
-    assert!(rt; device < net.devices());
-    assert!(rt; net.normal(device) == normal);
-    assert!(rt; net.device_name(device).bytes() == text);
-}
-
-fn has_nodes(rt: &impl Abort, net: &Net, rows: &[(u16, &[u8], Option<u8>)]) {
-    for (node, text, feeder) in rows {
-        is_node(rt, net, *node, text, *feeder);
+fn has_parts(rt: &impl Abort, net: &Net, parts: &[Part<'_>]) -> Result<(), Fail> {
+    for (text, node, device) in parts {
+        let name = Name::read(text).ok_or("a name")?;
+        match net.node_of(&name) {
+            Some(number) => assert!(rt; *node == Some((number, net.feeder_of(number)))),
+            None => assert!(rt; *node == None),
+        }
+        match net.device_of(&name) {
+            Some(number) => {
+                assert!(rt; *device == Some((number, net.normal(number))));
+                assert!(rt; net.device_name(number) == name);
+            }
+            None => assert!(rt; *device == None),
+        }
     }
-}
-
-fn has_devices(rt: &impl Abort, net: &Net, rows: &[(u16, &[u8], Pos)]) {
-    for (device, text, normal) in rows {
-        is_device(rt, net, *device, text, *normal);
-    }
-}
-
-#[test]
-fn nodes_and_devices(rt: HostRuntime) -> Result<(), Fail> {
-    let net = meshed(&rt, rt.alloc())?;
-    counts(&rt, &net, 6, 6, 0);
-    has_nodes(
-        &rt,
-        &net,
-        &[
-            (0, b"GRID", None),
-            (1, b"BUS-A", None),
-            (2, b"BUS-B", None),
-            (3, b"S1", Some(1)),
-            (4, b"S2", Some(1)),
-            (5, b"S3", Some(255)),
-        ],
-    );
-    has_devices(
-        &rt,
-        &net,
-        &[
-            (0, b"CB-A", Closed),
-            (1, b"CB-B", Closed),
-            (2, b"D1", Closed),
-            (3, b"D2", Closed),
-            (4, b"D3", Closed),
-            (5, b"TIE", Opened),
-        ],
-    );
     Ok(())
 }
 
+// The parts of the network above, a name of none, and the first node.
 #[test]
-fn the_first_node(rt: HostRuntime) {
+fn nodes_and_devices(rt: HostRuntime) -> Result<(), Fail> {
+    let net = meshed(&rt, rt.alloc())?;
+    assert!(rt; net.nodes() == 6 && net.devices() == 6 && net.searches() == 0);
+    let parts: &[Part<'_>] = &[
+        (b"GRID", Some((0, None)), None),
+        (b"BUS-A", Some((1, None)), None),
+        (b"BUS-B", Some((2, None)), None),
+        (b"S1", Some((3, Some(1))), None),
+        (b"S2", Some((4, Some(1))), None),
+        (b"S3", Some((5, Some(255))), None),
+        (b"CB-A", None, Some((0, Closed))),
+        (b"CB-B", None, Some((1, Closed))),
+        (b"D1", None, Some((2, Closed))),
+        (b"D2", None, Some((3, Closed))),
+        (b"D3", None, Some((4, Closed))),
+        (b"TIE", None, Some((5, Opened))),
+        (b"S4", None, None),
+    ];
+    has_parts(&rt, &net, parts)?;
     let Node { name, feeder } = grid();
     assert!(rt; name.bytes() == b"GRID".as_slice() && feeder == None);
+    Ok(())
 }
 
-// Adds a bus to a network of GRID alone, and removes it again.
-fn bus_and_none(rt: &impl Abort, net: &mut Net, bus: Name) -> Result<(), Fail>
-    requires { net.old.network.devices ≡ [] }
-{
-    counts(rt, net, 1, 0, 0);
+// A bus is added to a network of GRID alone, and removed again.
+#[test]
+fn a_node_is_taken_back(rt: HostRuntime) -> Result<(), Fail> {
+    let bus = Name::read(b"BUS-A").ok_or("a name")?;
+    let mut net = Net::new(rt.alloc())?;
     net.reserve_one()?;
-    assert!(rt; net.add_bus(bus) == Ok(()));
+    assert!(rt; net.nodes() == 1 && net.add_bus(bus) == Ok(()));
     assert!(rt; net.nodes() == 2);
     net.take_back_node();
     assert!(rt; net.nodes() == 1 && net.node_of(&bus) == None);
     Ok(())
 }
 
-#[test]
-fn a_node_is_taken_back(rt: HostRuntime) -> Result<(), Fail> {
-    let bus = Name::read(b"BUS-A").ok_or("a name")?;
-    let mut net = Net::new(rt.alloc())?;
-    bus_and_none(&rt, &mut net, bus)
-}
-
-// Removes the tie and adds it again.
-fn tie_anew(rt: &impl Abort, net: &mut Net) -> Result<(), Fail> {
-    assert!(rt; net.devices() == 6);
-    net.take_back_device();
-    counts(rt, net, 6, 5, 0);
-    is_device(rt, net, 4, b"D3", Closed);
-    assert!(rt; device_of(net, b"TIE") == None);
-    add_all(rt, net, "device TIE S1 S3 open 0 -")
-}
-
+// The tie is removed and added again.
 #[test]
 fn a_device_is_taken_back(rt: HostRuntime) -> Result<(), Fail> {
     let mut net = meshed(&rt, rt.alloc())?;
-    tie_anew(&rt, &mut net)
-}
-
-// Adds a node, which may not be refused.
-fn put_node(net: &mut Net, name: Name, feeder: u8) -> Result<(), Stop>
-    requires { 1 ≤ feeder }
-{
-    net.reserve_one()?;
-    if let Some(refusal) = net.node_refusal(&name) {
-        return Err(Stop::Refused(refusal));
-    }
-    net.add_node(Node {
-        name,
-        feeder: Some(feeder),
-    });
-    Ok(())
-}
-
-// Adds a device, which may not be refused, and answers the numbers of its ends.
-fn put_device(net: &mut Net, device: &NewDevice) -> Result<(u16, u16), Stop> {
-    let (a, b) = (device.ends.a(), device.ends.b());
-    net.reserve_one()?;
-    let ends = net.ends_of(&device.name, a, b, device.life.life())?;
-    net.join(device.between(ends.0, ends.1));
-    Ok(ends)
+    assert!(rt; net.devices() == 6);
+    net.take_back_device();
+    assert!(rt; net.nodes() == 6 && net.devices() == 5);
+    let parts: &[Part<'_>] = &[(b"D3", None, Some((4, Closed))), (b"TIE", None, None)];
+    has_parts(&rt, &net, parts)?;
+    add_all(&rt, &mut net, "device TIE S1 S3 open 0 -")
 }
 
 // A section and a device at it.
 #[test]
 fn parts_that_are_not_refused(rt: HostRuntime) -> Result<(), Fail> {
     let mut net = meshed(&rt, rt.alloc())?;
-    put_node(&mut net, Name::read(b"S9").ok_or("a name")?, 7)?;
-    match read_body(b"device D9 S9 S1 open 5 9") {
-        Some(Command::Device(device)) => assert!(rt; put_device(&mut net, &device)? == (6, 3)),
-        _ => return Err("a device".into()),
-    }
-    counts(&rt, &net, 7, 7, 0);
-    is_node(&rt, &net, 6, b"S9", Some(7));
-    is_device(&rt, &net, 6, b"D9", Opened);
+    let name = Name::read(b"S9").ok_or("a name")?;
+    net.reserve_one()?;
+    assert!(rt; net.node_refusal(&name) == None);
+    net.add_node(Node {
+        name,
+        feeder: Some(7),
+    });
+    let Some(Command::Device(device)) = read_body(b"device D9 S9 S1 open 5 9") else {
+        return Err("a device".into());
+    };
+    put_device(&rt, &mut net, &device)?;
+    let parts: &[Part<'_>] = &[
+        (b"S9", Some((6, Some(7))), None),
+        (b"D9", None, Some((6, Opened))),
+    ];
+    has_parts(&rt, &net, parts)
+}
+
+// Adds a device between the nodes 6 and 3, which may not be refused.
+fn put_device(rt: &impl Abort, net: &mut Net, device: &NewDevice) -> Result<(), Stop> {
+    net.reserve_one()?;
+    let (a, b) = (device.ends.a(), device.ends.b());
+    let ends = net.ends_of(&device.name, a, b, device.life.life())?;
+    assert!(rt; ends == (6, 3));
+    net.join(device.between(ends.0, ends.1));
     Ok(())
 }
 
@@ -251,7 +210,7 @@ fn supply(rt: HostRuntime) -> Result<(), Fail> {
     for line in SUPPLY.lines() {
         supplies(&rt, rt.alloc(), &mut net, line)?;
     }
-    counts(&rt, &net, 6, 6, 10);
+    assert!(rt; net.nodes() == 6 && net.devices() == 6 && net.searches() == 10);
     Ok(())
 }
 
@@ -302,21 +261,7 @@ fn one_switching_after_another(rt: HostRuntime) -> Result<(), Fail> {
     for switching in &SWITCHINGS {
         switches(&rt, &mut net, &mut supply, switching);
     }
-    counts(&rt, &net, 6, 6, 10);
-    Ok(())
-}
-
-// Adds the parts that body texts name, one a line; a line may end with ` => ` and the name of the
-// expected refusal.
-fn answers(rt: &impl Abort, net: &mut Net, lines: &str) -> Result<(), Fail> {
-    for line in lines.lines() {
-        let (body, wanted) = line.split_once(" => ").unwrap_or((line, ""));
-        let found = match add(net, body)? {
-            Some(refusal) => refusal.name(),
-            None => "",
-        };
-        assert!(rt; found == wanted, "{line}: {found}");
-    }
+    assert!(rt; net.nodes() == 6 && net.devices() == 6 && net.searches() == 10);
     Ok(())
 }
 
@@ -337,7 +282,7 @@ bus TIE
 #[test]
 fn names(rt: HostRuntime) -> Result<(), Fail> {
     let mut net = meshed(&rt, rt.alloc())?;
-    answers(&rt, &mut net, NAMES)?;
-    counts(&rt, &net, 7, 7, 0);
+    add_all(&rt, &mut net, NAMES)?;
+    assert!(rt; net.nodes() == 7 && net.devices() == 7 && net.searches() == 0);
     Ok(())
 }

@@ -8,45 +8,32 @@ use std::process::Abort;
 
 const TEXT: &[u8] = b"0123456789";
 
-// A reader that gives at most `step` bytes a read, each time after `jolts` interrupted calls.
-fn reader(bytes: &[u8], step: usize, jolts: u32) -> Watched<Source<'_>> {
-    let end = None;
-    Watched::new(Source::new(bytes, Way { step, jolts, end }))
-}
-
-// Checks that the next read of at most four bytes gives these bytes.
-fn gives(
-    rt: &impl Abort,
-    reader: &mut Watched<Source<'_>>,
-    retries: &mut Retries,
-    bytes: &[u8; 4],
-) {
-    let mut buf = [0; 4];
-    assert!(rt; read_some(reader, retries, &mut buf) == Ok(3));
-    assert!(rt; buf == *bytes);
-}
-
+// Reads of at most four bytes from a reader that gives three, each after an interrupted call, and
+// one that fails.
 #[test]
 fn single_reads(rt: HostRuntime) {
-    let mut reader = reader(TEXT, 3, 1);
+    let way = Way {
+        step: 3,
+        jolts: 1,
+        end: None,
+    };
+    let mut reader = Watched::new(Source::new(TEXT, way));
     let mut retries = Retries::new();
-    gives(&rt, &mut reader, &mut retries, b"012\0");
+    let mut buf = [0; 4];
+    assert!(rt; read_some(&mut reader, &mut retries, &mut buf) == Ok(3) && buf == *b"012\0");
+    assert!(rt; read_some(&mut reader, &mut retries, &mut buf) == Ok(3) && buf == *b"345\0");
     assert!(rt; reader.has_failed());
-    gives(&rt, &mut reader, &mut retries, b"345\0");
-}
-
-#[test]
-fn a_single_read_that_fails(rt: HostRuntime) {
     let mut reader = Watched::new(Source::new(b"", FULL));
-    let read = read_some(&mut reader, &mut Retries::new(), &mut [0; 4]);
-    assert!(rt; read == Err(Fault::Input));
+    assert!(rt; read_some(&mut reader, &mut retries, &mut buf) == Err(Fault::Input));
 }
 
-// Reads a text in pieces: it is read whole if it fits within the limit; otherwise that ends in an
-// input fault, although the reader itself has only failed where it was interrupted.
+// Reads a text in pieces of at most `step` bytes, each after `jolts` interrupted calls: it is read
+// whole if it fits within the limit; otherwise that ends in an input fault, although the reader
+// itself has only failed where it was interrupted.
 fn reads(rt: &impl Abort, alloc: Global, text: &[u8], pieces: (usize, u32), limit: usize) {
     let (step, jolts) = pieces;
-    let mut reader = reader(text, step, jolts);
+    let end = None;
+    let mut reader = Watched::new(Source::new(text, Way { step, jolts, end }));
     let read = read_text(alloc, &mut reader, &mut Retries::new(), limit);
     assert!(rt; reader.has_failed() == (jolts > 0));
     match read {
@@ -55,26 +42,28 @@ fn reads(rt: &impl Abort, alloc: Global, text: &[u8], pieces: (usize, u32), limi
     }
 }
 
-#[test]
-fn texts_within_a_limit(rt: HostRuntime) {
-    for (step, limit) in [(1, 10), (3, 10), (100, 10), (1, 11), (3, 11), (100, 4096)] {
-        reads(&rt, rt.alloc(), TEXT, (step, 0), limit);
-        reads(&rt, rt.alloc(), TEXT, (step, 1), limit);
-    }
-    reads(&rt, rt.alloc(), b"", (1, 0), 0);
-}
+// Texts, the bytes of a piece, and limits; the last three texts are longer than one chunk.
+const LIMITS: &'static [(&'static [u8], usize, usize)] = &[
+    (TEXT, 1, 10),
+    (TEXT, 3, 10),
+    (TEXT, 100, 10),
+    (TEXT, 1, 11),
+    (TEXT, 3, 11),
+    (TEXT, 100, 4096),
+    (TEXT, 1, 9),
+    (TEXT, 3, 9),
+    (TEXT, 100, 9),
+    (b"", 1, 0),
+    (&[b'x'; 5000], 5000, 4999),
+    (&[b'x'; 5000], 5000, 5000),
+    (&[b'x'; 5000], 5000, 5001),
+];
 
 #[test]
-fn texts_above_a_limit(rt: HostRuntime) {
-    for step in [1, 3, 100] {
-        reads(&rt, rt.alloc(), TEXT, (step, 0), 9);
-    }
-}
-
-#[test]
-fn texts_above_one_chunk(rt: HostRuntime) {
-    for limit in [4999, 5000, 5001] {
-        reads(&rt, rt.alloc(), &[b'x'; 5000], (5000, 0), limit);
+fn texts_within_a_limit_and_above(rt: HostRuntime) {
+    for (text, step, limit) in LIMITS {
+        reads(&rt, rt.alloc(), text, (*step, 0), *limit);
+        reads(&rt, rt.alloc(), text, (*step, 1), *limit);
     }
 }
 

@@ -1,15 +1,11 @@
 //! The jobs, and how each ends with a `Keeper`.
 use crate::jobs::host::{Input, Output, Server};
-use crate::office::Period;
-use ob_base::{Fault, Stop};
+use ob_base::Stop;
 use ob_cli::{Unfinished, status_of_run};
-use ob_harness::texts::OUTAGE;
-use ob_harness::{FULL, Sink, Source, WHOLE};
-use ob_import::import_with_progress;
+use ob_harness::Sink;
 use ob_jobs::{
     Silent, audit_book, export_from_book, import_into_book, import_whole_into_book,
-    interruptions_from_book, make_book, migrate_book, print_book, run_export, run_interruptions,
-    run_table, serve_book,
+    interruptions_from_book, make_book, migrate_book, print_book, serve_book,
 };
 use ob_store::Keeper;
 use ob_stream::Watched;
@@ -53,9 +49,6 @@ pub struct Told {
     pub tried: bool,
 }
 
-/// There is no book.
-const REOPEN: Stop = Stop::Fault(Fault::Reopen);
-
 fn ended_as(run: &Result<(), Unfinished>, writer: Watched<Sink>, tried: bool) -> Told {
     let halt = match run {
         Err(Unfinished::Stopped(stop, row)) => Some((*stop, *row)),
@@ -72,35 +65,27 @@ fn ended_as(run: &Result<(), Unfinished>, writer: Watched<Sink>, tried: bool) ->
 /// Creates a book of this many days.
 pub fn makes<S: Alter, T: Timeline>(
     keeper: &mut Keeper<S, T>,
-    period: &Period,
+    days: u16,
     mut writer: Watched<Sink>,
 ) -> Told {
-    let (first, days, zone) = *period;
-    let run = make_book(keeper, first.as_bytes(), days, zone.as_bytes(), &mut writer);
+    let run = make_book(keeper, b"2024-01-01", days, b"UTC0", &mut writer);
     ended_as(&run, writer, false)
 }
 
-/// Imports a text, or an input that can't be opened.
+/// Imports a text row by row, or as a whole, or an input that can't be opened.
 pub fn imports<S: Alter, T: Timeline>(
     alloc: Global,
     keeper: &mut Keeper<S, T>,
     text: Option<&'static str>,
+    whole: bool,
     mut writer: Watched<Sink>,
 ) -> Told {
     let mut input = Input { text, tried: false };
-    let run = import_into_book(alloc, keeper, &mut input, &mut Silent, &mut writer);
-    ended_as(&run, writer, input.tried)
-}
-
-/// Imports all of a text or nothing, or an input that can't be opened.
-pub fn imports_whole<S: Alter, T: Timeline>(
-    alloc: Global,
-    keeper: &mut Keeper<S, T>,
-    text: Option<&'static str>,
-    mut writer: Watched<Sink>,
-) -> Told {
-    let mut input = Input { text, tried: false };
-    let run = import_whole_into_book(alloc, keeper, &mut input, &mut Silent, &mut writer);
+    let run = if whole {
+        import_whole_into_book(alloc, keeper, &mut input, &mut Silent, &mut writer)
+    } else {
+        import_into_book(alloc, keeper, &mut input, &mut Silent, &mut writer)
+    };
     ended_as(&run, writer, input.tried)
 }
 
@@ -170,39 +155,4 @@ pub fn serves<S: Alter, T: Timeline>(
     let mut server = Server { free, tried: false };
     let run = serve_book(keeper, &mut server, &mut Silent);
     ended_as(&run, writer, server.tried)
-}
-
-/// Answers whether an import stops because there is no book.
-pub fn lacks_import<S: Alter, T: Timeline>(alloc: Global, keeper: &mut Keeper<S, T>) -> bool {
-    let mut input = Watched::new(Source::new(OUTAGE.as_bytes(), WHOLE));
-    match import_with_progress(alloc, &mut input, keeper, &mut Silent) {
-        Ok(_) => false,
-        Err(failed) => failed.fault == Fault::Reopen,
-    }
-}
-
-/// Answers whether an export stops because there is no book, and prints and writes nothing.
-pub fn lacks_export<S: Alter, T: Timeline>(alloc: Global, keeper: &mut Keeper<S, T>) -> bool {
-    let mut told = Watched::new(Sink::new(alloc, 100, FULL));
-    let mut file = Watched::new(Sink::new(alloc, 100, FULL));
-    let run = run_export(alloc, keeper, &mut file, &mut told);
-    let is_silent = told.into_parts().0.taken.is_empty() && file.into_parts().0.taken.is_empty();
-    run == Err(REOPEN) && is_silent
-}
-
-/// Answers whether the job of interruptions stops because there is no book, and prints and writes
-/// nothing.
-pub fn lacks_list<S: Alter, T: Timeline>(alloc: Global, keeper: &Keeper<S, T>) -> bool {
-    let mut told = Watched::new(Sink::new(alloc, 100, FULL));
-    let mut file = Watched::new(Sink::new(alloc, 100, FULL));
-    let run = run_interruptions(alloc, keeper, &mut file, &mut told);
-    let is_silent = told.into_parts().0.taken.is_empty() && file.into_parts().0.taken.is_empty();
-    run == Err(REOPEN) && is_silent
-}
-
-/// Answers whether printing the annual table stops because there is no book, and writes nothing.
-pub fn lacks_table<S: Alter, T: Timeline>(alloc: Global, keeper: &mut Keeper<S, T>) -> bool {
-    let mut told = Watched::new(Sink::new(alloc, 100, FULL));
-    let run = run_table(keeper, &mut told);
-    run == Err(REOPEN) && told.into_parts().0.taken.is_empty()
 }

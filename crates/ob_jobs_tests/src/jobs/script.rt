@@ -1,6 +1,7 @@
 //! Steps on a store in memory, one after another, and the answer to each.
 use crate::jobs::calls::{Ask, Halt, Told};
 use crate::office::{Office, Trial, over};
+use crate::script::lacks_book;
 use ob_base::{Fault, Refusal, Stop};
 use ob_harness::texts::OUTAGE;
 use ob_harness::{FULL, Sink};
@@ -23,8 +24,8 @@ pub const INPUT: Halt = Some((Stop::Fault(Fault::Input), None));
 /// An output can't be made or written.
 pub const OUTPUT: Halt = Some((Stop::Fault(Fault::Output), None));
 
-/// A step on a store, with a `Keeper` of its own, and the expected answer: a job, its status, why it
-/// stopped, and what it printed.
+/// A step on a store, with a `Keeper` of its own, and the expected answer: a job, its status, why
+/// it stopped, and what it printed.
 #[derive(Clone, Copy)]
 pub enum Step {
     /// Runs these statements.
@@ -35,10 +36,9 @@ pub enum Step {
     Lack(Ask, u8, Halt, &'static str),
     /// Does a job whose printed text begins with this.
     Begin(Ask, &'static str),
-    /// Does a job with a writer that has less room than this line: the part that fits is written.
-    Break(Ask, &'static str, usize),
-    /// Does the same with room for each number of bytes.
-    BreakAlways(Ask, &'static str),
+    /// Does a job with writers that have room for each number of bytes of this line from the first
+    /// number to before the last: the part that fits is written.
+    Break(Ask, &'static str, usize, usize),
 }
 
 /// Creates a book.
@@ -59,23 +59,18 @@ fn ended(told: &Told, status: u8, halt: Halt, text: &[u8]) -> bool {
         && !(told.tried && (halt == BAD_BOOK || halt == OLD_VERSION))
 }
 
-// Answers whether a job with a writer of this much room ends with an output fault, after writing
-// the part that fits.
+// Answers whether a job with writers of these rooms ends with an output fault, after writing the
+// part that fits.
 fn breaks_off<O: Office>(
     alloc: Global,
     office: &mut O,
     ask: Ask,
     line: &[u8],
-    room: usize,
+    rooms: (usize, usize),
 ) -> bool {
-    let told = office.does(alloc, ask, Sink::new(alloc, room, FULL));
-    room < line.len() && ended(&told, 1, OUTPUT, &line[..room])
-}
-
-// The same for each room that is too small.
-fn always_breaks_off<O: Office>(alloc: Global, office: &mut O, ask: Ask, line: &[u8]) -> bool {
-    for room in 0..line.len() {
-        if !breaks_off(alloc, office, ask, line, room) {
+    for room in rooms.0..rooms.1 {
+        let told = office.does(alloc, ask, Sink::new(alloc, room, FULL));
+        if room >= line.len() || !ended(&told, 1, OUTPUT, &line[..room]) {
             return false;
         }
     }
@@ -101,14 +96,15 @@ fn holds<O: Office>(alloc: Global, office: &mut O, step: &Step) -> bool {
         Step::Sql(_) => true,
         Step::Do(ask, status, halt, text) => is_done(alloc, office, *ask, *status, *halt, text),
         Step::Lack(ask, status, halt, text) => {
-            is_done(alloc, office, *ask, *status, *halt, text) && office.lacks_book(alloc)
+            is_done(alloc, office, *ask, *status, *halt, text) && lacks_book(alloc, office)
         }
         Step::Begin(ask, text) => {
             let told = office.does(alloc, *ask, Sink::new(alloc, 4_000, FULL));
             told.status == 0 && told.text.starts_with(text.as_bytes())
         }
-        Step::Break(ask, line, room) => breaks_off(alloc, office, *ask, line.as_bytes(), *room),
-        Step::BreakAlways(ask, line) => always_breaks_off(alloc, office, *ask, line.as_bytes()),
+        Step::Break(ask, line, first, last) => {
+            breaks_off(alloc, office, *ask, line.as_bytes(), (*first, *last))
+        }
     }
 }
 

@@ -1,4 +1,5 @@
-//! Tests of the lines that the jobs print, and of their exit statuses.
+//! Tests of the lines that the jobs print, and of their exit statuses; and of writers that fail
+//! after each byte of a line.
 use crate::jobs::calls::Ask;
 use crate::jobs::script::{
     BAD_BOOK, FILLED, INPUT, MADE, OLD_VERSION, OUTPUT, SOUND, Step, are_done,
@@ -68,11 +69,6 @@ const BOOK: &[Step] = &[
     Step::Lack(Ask::Migrate, 0, None, "version 2\n"),
 ];
 
-#[test]
-fn jobs_on_a_book(rt: HostRuntime) -> Result<(), Stop> {
-    are_done(&rt, rt.alloc(), BOOK)
-}
-
 // Whole imports: a refused row leaves nothing of its text in the book, also where that is a later
 // row or the header; all rows of a text are then added, and the same text adds nothing more.
 const WHOLE_TEXTS: &[Step] = &[
@@ -111,11 +107,6 @@ const WHOLE_TEXTS: &[Step] = &[
     SOUND,
 ];
 
-#[test]
-fn whole_imports_into_a_book(rt: HostRuntime) -> Result<(), Stop> {
-    are_done(&rt, rt.alloc(), WHOLE_TEXTS)
-}
-
 // A book of version 1: if an amount in its tables was changed by other means, it is no book, and is
 // left as it is; otherwise it is migrated to one of version 2 with the same commands and amounts.
 const MIGRATED: &[Step] = &[
@@ -137,11 +128,6 @@ const MIGRATED: &[Step] = &[
     Step::Do(Ask::Migrate, 0, None, "version 2\n"),
     Step::Do(Ask::Serve(true), 0, None, ""),
 ];
-
-#[test]
-fn migrations_of_a_book(rt: HostRuntime) -> Result<(), Stop> {
-    are_done(&rt, rt.alloc(), MIGRATED)
-}
 
 // Each job on tables that aren't those of a book. Then a row is refused; an amount in the tables is
 // changed by other means; and each job is done once more on tables that aren't those of a book.
@@ -172,7 +158,59 @@ const NO_BOOK: &[Step] = &[
     Step::Lack(Ask::Serve(false), 2, BAD_BOOK, ""),
 ];
 
+// Jobs that leave the book as it is, and how the line that each prints begins; and the audit after
+// the writers have failed.
+const WRITERS: &[Step] = &[
+    MADE,
+    FILLED,
+    Step::Break(Ask::Audit, "audit ok\n", 0, 9),
+    Step::Break(Ask::Import(Some(OUTAGE)), "added 0 again 25\n", 0, 17),
+    Step::Break(Ask::Export(Some(4_000)), "rows 9\n", 0, 7),
+    Step::Break(Ask::Interruptions(Some(4_000)), "rows 2\n", 0, 7),
+    Step::Break(
+        Ask::Print,
+        "OUTAGE BOOK 2024-01-01 days 1 zone UTC0\n",
+        0,
+        40,
+    ),
+    Step::Break(Ask::Migrate, "version 2\n", 0, 10),
+    SOUND,
+];
+
 #[test]
-fn jobs_on_no_book(rt: HostRuntime) -> Result<(), Stop> {
-    are_done(&rt, rt.alloc(), NO_BOOK)
+fn jobs_on_books_and_on_none(rt: HostRuntime) -> Result<(), Stop> {
+    for steps in [BOOK, NO_BOOK] {
+        are_done(&rt, rt.alloc(), steps)?;
+    }
+    Ok(())
+}
+
+#[test]
+fn whole_imports_migrations_and_writers(rt: HostRuntime) -> Result<(), Stop> {
+    for steps in [WHOLE_TEXTS, MIGRATED, WRITERS] {
+        are_done(&rt, rt.alloc(), steps)?;
+    }
+    Ok(())
+}
+
+const CREATED: &'static str = "created\n";
+
+const MIGRATED_LINE: &'static str = "migrated\n";
+
+// A new book is created although its line can't be printed, and a book of version 1 is migrated.
+#[test]
+fn writers_that_fail_on_a_changed_book(rt: HostRuntime) -> Result<(), Stop> {
+    for room in 0..MIGRATED_LINE.len() {
+        let first = room.min(7);
+        let steps = &[
+            Step::Break(Ask::Make(1), CREATED, first, first + 1),
+            SOUND,
+            FILLED,
+            Step::Sql(TO_VERSION_1),
+            Step::Break(Ask::Migrate, MIGRATED_LINE, room, room + 1),
+            SOUND,
+        ];
+        are_done(&rt, rt.alloc(), steps)?;
+    }
+    Ok(())
 }
