@@ -78,7 +78,10 @@ pub enum Step {
 fn holds<O: Office>(alloc: Global, office: &mut O, by_reader: bool, step: &Step) -> bool {
     match step {
         Step::Make => {
-            office.does(alloc, Ask::Make(1), Sink::new(alloc, WIDE, WHOLE)).status == 0
+            office
+                .does(alloc, Ask::Make(1), Sink::new(alloc, WIDE, WHOLE))
+                .status
+                == 0
         }
         Step::Import(text, wanted) => {
             if by_reader {
