@@ -1,5 +1,5 @@
 -- What is shown after a list of calls is the headline of a book to which these may have led.
-use Rattle.std.proofs.Common.{◌≡◌, ◌⊎◌, ◌∙◌, inl, inr, ap, sym, subst, refl, ℕ, true, false, ◌↔◌, ◌++◌, List, [], ◌∷◌, append-nil, true≢false, Contains, Option, Some, None, Result, Ok, Err, IfOk, IfErr, IfSome, if◌then◌else◌}
+use Rattle.std.proofs.Common.{◌≡◌, ◌⊎◌, ◌∙◌, inl, inr, ap, sym, subst, refl, ℕ, true, false, ◌↔◌, List, [], ◌∷◌, append-nil, true≢false, Option, Some, None, Result, Ok, Err, IfOk, IfErr, IfSome, if◌then◌else◌}
 use Rattle.std.specs.Prelude.{⊤, IsNone}
 use Rattle.ob_base.specs.Stop.{out_of_memory}
 use Rattle.ob_base.specs.declared.stop.Stop.{Stop}
