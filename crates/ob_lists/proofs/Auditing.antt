@@ -1,5 +1,5 @@
 -- What an audit finds of a book that the store may have.
-use Rattle.std.proofs.Common.{◌≡◌, ◌⊎◌, inl, inr, ℕ, List, [], ◌∷◌, Option, Some, None, Result, Ok, Err, IfErr, refl, sym, ap, subst, ◌∙◌, arith}
+use Rattle.std.proofs.Common.{◌≡◌, inl, inr, ℕ, List, [], ◌∷◌, Option, Some, None, Result, Ok, Err, IfErr, refl, ap, subst, ◌∙◌, arith}
 use Rattle.std.specs.List.{AllByRecursion}
 use Rattle.std.proofs.lemmas.List.Sorted.{IsPermutation-sym, IsPermutation-trans}
 use Rattle.sqlite.specs.Order.{column}
@@ -103,10 +103,5 @@ module _ {S T : Type 0} {g : Ghosts S} (few : ReachedAreFew) (old new : Keeper S
     audits_one (Err (Refused r)) answers stops audited outdated (inr (inr it)) =
         let was = old_book old new Is it in
         let live = answers.live clean tt in
-<<<<<<< HEAD
-        told_old g old new Is (Option Table) r (states_old g old was.0 was.2 was_clean live) it (outdated clean (shows_old g old was.0 was.2 was_clean live))
-    audits_one (Err (Fault f)) answers stops audited outdated stands = load_fault g old new Is f stops was_clean clean answers stands
-=======
         told_old old new Is (Option Table) r (states_old old was.0 was.2 was_clean live) it (outdated clean (shows_old old was.0 was.2 was_clean live))
-    audits_one (Err (Fault f)) answers stops audited outdated stands = load_fault old new Is f stops
->>>>>>> b4b8cd67 (Above the storage layer no contract names the store, its tree or its schema (crates above ob_store are not checked yet))
+    audits_one (Err (Fault f)) answers stops audited outdated stands = load_fault old new Is f stops was_clean clean answers stands

@@ -22,14 +22,9 @@ module _ {S T R U : Type 0} {g : Ghosts S} {h : Ghosts R} (settles : Settles g) 
   -- a book that the store keeps after the crash
   finds_kept : (p : Calendar) → Stores next (start p) → Finds (λ x. x ≡ start p) new found
   finds_kept p keeps =
-<<<<<<< HEAD
-      let stands : Stands h (λ x. x ≡ start p) next =
-      inl (record { book = start p; is = refl; ties = record { kept = keeps; book = none g h settles_new made next it (start p) } }) in
-      finds h (λ x. x ≡ start p) next new found stands loads (loads_one h next new (λ x. x ≡ start p) law found loads clean stands)
-=======
-      finds (λ x. x ≡ start p) next new found (loads_one next new (λ x. x ≡ start p) law found loads clean
-      (inl (record { book = start p; is = refl; ties = record { kept = keeps; book = none settles_new made next it (start p) } })))
->>>>>>> b4b8cd67 (Above the storage layer no contract names the store, its tree or its schema (crates above ob_store are not checked yet))
+      let stands : Stands (λ x. x ≡ start p) next =
+      inl (record { book = start p; is = refl; ties = record { kept = keeps; book = none settles_new made next it (start p) } }) in
+      finds (λ x. x ≡ start p) next new found stands loads (loads_one next new (λ x. x ≡ start p) law found loads clean stands)
 
   finds_none : LeftAll old made → IsErr found
   finds_none left = nothing_after settles settles_new old made next new held it.opens found loads clean left

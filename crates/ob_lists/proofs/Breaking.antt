@@ -109,7 +109,7 @@ module _ {S T : Type 0} {g : Ghosts S} (new : Keeper S T g) where
       unwritten : ((x : ActState) → IsUnwritten allowed rest part c x → Is x) → BreaksReply allowed rest part new (Some c) → Stands Is new
       unwritten may h = by_next h.next h.answers h.stands
         where
-          by_next : (y : Option ActState) → AnswersAt (Some c) h.message (ends allowed h.message) h.reply y → Has g new y → Stands Is new
+          by_next : (y : Option ActState) → AnswersAt (Some c) h.message (ends allowed h.message) h.reply y → Has new y → Stands Is new
           by_next None answers stands = absurd answers
           by_next (Some d) answers stands = one d (may d (record {
             message = h.message;

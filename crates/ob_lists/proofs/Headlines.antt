@@ -1,5 +1,5 @@
 -- What is shown after a list of calls is the headline of a book to which these may have led.
-use Rattle.std.proofs.Common.{◌≡◌, ◌⊎◌, ◌∙◌, inl, inr, ap, sym, subst, refl, ℕ, true, false, ◌↔◌, ◌++◌, List, [], ◌∷◌, append-nil, true≢false, Contains, Option, Some, None, Result, Ok, Err, IfOk, IfErr, IfSome, if◌then◌else◌}
+use Rattle.std.proofs.Common.{◌≡◌, ◌⊎◌, ◌∙◌, inl, inr, ap, sym, subst, refl, ℕ, true, false, ◌↔◌, List, [], ◌∷◌, append-nil, true≢false, Option, Some, None, Result, Ok, Err, IfOk, IfErr, IfSome, if◌then◌else◌}
 use Rattle.std.specs.Prelude.{⊤, IsNone}
 use Rattle.ob_base.specs.Stop.{out_of_memory}
 use Rattle.ob_base.specs.declared.stop.Stop.{Stop}
@@ -65,44 +65,22 @@ module _ {S T : Type 0} {g : Ghosts S} (stays : PeriodStays) (holds : ToldLaw) (
   shows (Ok (Some s)) headline none (inr (inr (inr it))) = not_shown s it.lost none
 
   -- the book that a load found
-<<<<<<< HEAD
-  found_shows : (old : KeeperValue S) (result : Result (Option Shown) Stop) (x : ActState) → MayBe b told x → Ties g k x → k.book ≡ Some x.book
-      → ((y : ActState) → Ties g k y → IfOk result (λ s. IfSome s (IsHeadline y dim key which)))
-      → IfOk result (λ s. IsNone s ↔ HasNoAmount k.book dim key) → IfErr result (λ stop. stop ≡ out_of_memory)
-      → LoadsAndShows g b told k dim key which old result
+  found_shows : (old : Keeper S T g) (result : Result (Option Shown) Stop) (x : ActState) → MayBe b told x → Ties k x → book_of k ≡ Some x.book
+      → ((y : ActState) → Ties k y → IfOk result (λ s. IfSome s (IsHeadline y dim key which)))
+      → IfOk result (λ s. IsNone s ↔ HasNoAmount (book_of k) dim key) → IfErr result (λ stop. stop ≡ out_of_memory)
+      → LoadsAndShows b told k dim key which old result
   found_shows old (Ok (Some s)) x may ties has headline none fault = of_one x may ties s (headline x ties)
   found_shows old (Ok None) x may ties has headline none fault =
       subst (λ (q : Calendar). ¬ (IsKey (day_count q) dim key)) (may_be_of_period stays b told x may)
       (subst (λ (o : Option BookState). HasNoAmount o dim key) has (none.0 refl))
   found_shows old (Err stop) x may ties has headline none fault =
-      subst (λ (s : Stop). LoadsOne g (MayBe b told) old k (Err s)) (sym fault) tt
+      subst (λ (s : Stop). LoadsOne (MayBe b told) old k (Err s)) (sym fault) tt
 
   pub loaded_shows : (result : Result (Option Shown) Stop)
-      → ((y : ActState) → Ties g k y → IfOk result (λ s. IfSome s (IsHeadline y dim key which)))
-      → IfOk result (λ s. IsNone s ↔ HasNoAmount k.book dim key) → IfErr result (λ stop. stop ≡ out_of_memory)
-      → (old : KeeperValue S) (done : ⊤) → LoadsOne g (MayBe b told) old k (Ok done) → LoadsAndShows g b told k dim key which old result
+      → ((y : ActState) → Ties k y → IfOk result (λ s. IfSome s (IsHeadline y dim key which)))
+      → IfOk result (λ s. IsNone s ↔ HasNoAmount (book_of k) dim key) → IfErr result (λ stop. stop ≡ out_of_memory)
+      → (old : Keeper S T g) (done : ⊤) → LoadsOne (MayBe b told) old k (Ok done) → LoadsAndShows b told k dim key which old result
   loaded_shows result headline none fault old done found = found_shows old result found.0 found.1 found.2 found.3 headline none fault
-=======
-  found_shows : (result : Result (Option Shown) Stop) (x : ActState) → MayBe b told x → Ties k x → book_of k ≡ Some x.book
-      → ((y : ActState) → Ties k y → IfOk result (λ s. IfSome s (IsHeadline y dim key which)))
-      → IfOk result (λ s. IsNone s ↔ HasNoAmount (book_of k) dim key) → IfErr result (λ stop. stop ≡ out_of_memory)
-      → LoadsAndShows b told k dim key which result
-  found_shows (Ok (Some s)) x may ties has headline none fault = of_one x may ties s (headline x ties)
-  found_shows (Ok None) x may ties has headline none fault =
-      subst (λ (q : Calendar). ¬ (IsKey (day_count q) dim key)) (may_be_of_period stays b told x may)
-      (subst (λ (o : Option BookState). HasNoAmount o dim key) has (none.0 refl))
-  found_shows (Err stop) x may ties has headline none fault =
-      subst (λ (s : Stop). Finds (MayBe b told) k (Err s)) (sym fault) tt
-
-  pub loaded_shows : (result : Result (Option Shown) Stop)
-      → ((y : ActState) → Ties k y → IfOk result (λ s. IfSome s (IsHeadline y dim key which)))
-      → IfOk result (λ s. IsNone s ↔ HasNoAmount (book_of k) dim key) → IfErr result (λ stop. stop ≡ out_of_memory)
-      → (old : Keeper S T g) (done : ⊤) → LoadsOne (MayBe b told) old k (Ok done) → LoadsAndShows b told k dim key which result
-  loaded_shows result headline none fault old done found = found_shows result found.0 found.1 found.2 found.3 headline none fault
-
-  pub stopped_shows : (old : Keeper S T g) (stop : Stop) → LoadsOne (MayBe b told) old k (Err stop) → LoadsAndShows b told k dim key which (Err stop)
-  stopped_shows old stop found = finds (MayBe b told) old k (Err stop) found
->>>>>>> b4b8cd67 (Above the storage layer no contract names the store, its tree or its schema (crates above ob_store are not checked yet))
 
 -- a list of calls that began with a new book
 pub goes_from : {S T R U : Type 0} {g : Ghosts S} {h : Ghosts R} (b : ActState) (told : List Told) (first : Keeper R U h) (old : Keeper S T g)

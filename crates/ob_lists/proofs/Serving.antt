@@ -98,7 +98,7 @@ module _ {S T : Type 0} {g : Ghosts S} (old new : Keeper S T g) (b : ActState) (
           )) (unmoved old new (MayBe b before) (unopened none) stands)
       | inr it ↦
           let so = run.answered (Some it.0) (clean, it.2, it.3) in
-          let stood : Has g new (Some (acts it.0 so.5.0)) = subst (Has g new) so.5.1 so.4 in
+          let stood : Has new (Some (acts it.0 so.5.0)) = subst (Has new) so.5.1 so.4 in
           inl (record {
             book = acts it.0 so.5.0;
             is = (

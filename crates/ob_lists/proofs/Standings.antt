@@ -12,7 +12,6 @@ use Rattle.ob_base.specs.declared.stop.Refusal.{Refusal}
 use Rattle.ob_base.specs.declared.stop.Refusal.TheVariants.{BadField, UnknownName, NameTaken, OutOfPeriod, UnknownEntry, Stale, Withdrawn, UnknownCustomer, BadService, RefConflict, Full, MarkedAlready, NotMarked, UnknownCause, BadPeriod, BadBook, BadLife, OldVersion}
 use Rattle.ob_state.specs.State.{BookState}
 use Rattle.ob_book.specs.Acts.{ActState, Referenced, act}
-<<<<<<< HEAD
 use Rattle.ob_sql_rows.specs.Rows.{AreApart, Tables}
 use Rattle.ob_sql_rows.specs.Versions.{HoldsIn}
 use Rattle.ob_sql_rows.specs.declared.version.Version.{Version}
@@ -20,17 +19,10 @@ use Rattle.ob_sql_rows.specs.declared.version.Version.TheVariants.{One, Two}
 use Rattle.ob_sql_write.specs.Keeps.{IsSettledIn}
 use Rattle.ob_record.specs.Tables.{tables_of}
 use Rattle.ob_sql_check.specs.OldTables.{old_tables_of}
-use Rattle.ob_store.specs.Acting.{Acted, reply_as}
-use Rattle.ob_store.specs.Calls.{MigratesOldTables, MigratesStoredBook, MigrationAnswers, ReadAnswers, StillStores, StoreFailed, WasEmpty}
-use Rattle.ob_store.specs.Crashing.{HasLoaded, LoadLaw, Loads}
-use Rattle.ob_store.specs.Creating.{Created}
-use Rattle.ob_store.specs.Keepers.{Ghosts, HasOldTables, IsClean, IsOpen, KeeperValue, StatesOld, Stores, StoresEitherVersion, StoresOld, Ties}
-=======
 use Rattle.ob_store.specs.Acting.{reply_as}
-use Rattle.ob_store.specs.Calls.{Acted, Created, HasLoaded, Loads, MigratesOldTables, MigratesStoredBook, MigrationAnswers, MovesOut, Outdated, Replied, StillStores, StoreFails, WasEmpty}
+use Rattle.ob_store.specs.Calls.{Acted, Created, HasLoaded, Loads, MigratesOldTables, MigratesStoredBook, MigrationAnswers, MovesOut, Outdated, ReadAnswers, Replied, StillStores, StoreFailed, StoreFails, WasEmpty}
 use Rattle.ob_store.specs.Crashing.{LoadLaw}
 use Rattle.ob_store.specs.Keepers.{Ghosts, HasOldTables, IsClean, IsOpen, StatesOld, Stores, StoresEitherVersion, StoresOld, Ties, book_of}
->>>>>>> b4b8cd67 (Above the storage layer no contract names the store, its tree or its schema (crates above ob_store are not checked yet))
 use Rattle.ob_store.specs.Keeping.{IsBookAfter}
 use Rattle.ob_store.specs.MovingOut.{Takes}
 use Rattle.ob_store.specs.Versions.{IsLoadFault}
@@ -67,29 +59,25 @@ stands_as k Is Js so (inr (inl it)) = inr (inl (record {
 stands_as k Is Js so (inr (inr (inl it))) = inr (inr (inl (record { book = it.book; is = so it.book it.is; keeps = it.keeps; lost = it.lost })))
 stands_as k Is Js so (inr (inr (inr it))) = inr (inr (inr (record { book = it.book; is = so it.book it.is; keeps = it.keeps; lost = it.lost })))
 
-<<<<<<< HEAD
 -- no two amounts of a version's tables stand under one hidden row number
 apart_in : (v : Version) (trees : Trees) (t : Tables) → HoldsIn v trees t → AreApart (trees 14)
 apart_in One trees t holds = holds.apart
 apart_in Two trees t holds = holds.apart
 
-module _ {S : Type 0} (g : Ghosts S) (old new : KeeperValue S) where
+module _ {S T : Type 0} {g : Ghosts S} (old new : Keeper S T g) where
   -- where the store is told to have failed as the tables of a version were read that it keeps, it has, since its file isn't broken
-  failed_over : {X : Type 0} (v : Version) (t : Tables) → IsClean g new → ReadAnswers g {X = X} old new (Err (Fault Store))
-      → (IsOpen g old → IsSettledIn v (state g old.conn) t) → StoreFailed g old new
-  failed_over v t clean answers settled = elim (cases_Bool (state g old.conn).is_open) [
+  failed_over : {X : Type 0} (v : Version) (t : Tables) → IsClean new → ReadAnswers {X = X} old new (Err (Fault Store))
+      → (IsOpen old → IsSettledIn v (state g old.parts.conn) t) → StoreFailed old new
+  failed_over v t clean answers settled = elim (cases_Bool (state g old.parts.conn).is_open) [
     | inl live ↦
         let it = settled live in
         elim (answers.cause clean v it.schema refl) [
           | inl failed ↦ failed
-          | inr broken ↦ absurd (broken (apart_in v (state g old.conn).now.trees t it.holds))
+          | inr broken ↦ absurd (broken (apart_in v (state g old.parts.conn).now.trees t it.holds))
         ]
     | inr shut ↦ inr (inl shut)
   ]
 
-=======
-module _ {S T : Type 0} {g : Ghosts S} (old new : Keeper S T g) where
->>>>>>> b4b8cd67 (Above the storage layer no contract names the store, its tree or its schema (crates above ob_store are not checked yet))
   -- a book that is kept, and that of the keeper as before or none
   tie_as_before : (x : ActState) → Ties old x → Stores new x → book_of new ≡ book_of old → Ties new x
   tie_as_before x ties keeps same = record { kept = keeps; book = subst (λ b. IfSome b (λ s. s ≡ x.book)) (sym same) ties.book }
@@ -147,7 +135,7 @@ module _ {S T : Type 0} {g : Ghosts S} (old new : Keeper S T g) where
     old_book (inr it) = (it.book, it.is, it.keeps)
 
     -- whichever of these books there may be
-    failed_for_cause : {X : Type 0} → IsClean g old → IsClean g new → ReadAnswers g {X = X} old new (Err (Fault Store)) → Stands g Is old → StoreFailed g old new
+    failed_for_cause : {X : Type 0} → IsClean old → IsClean new → ReadAnswers {X = X} old new (Err (Fault Store)) → Stands Is old → StoreFailed old new
     failed_for_cause was_clean clean answers (inl it) =
         failed_over Two (tables_of it.book) clean answers (λ live. it.ties.kept.kept.settled was_clean live)
     failed_for_cause was_clean clean answers (inr (inl it)) =
@@ -197,22 +185,13 @@ module _ {S T : Type 0} {g : Ghosts S} (old new : Keeper S T g) where
     told_old X (OldVersion version) one it told = (told.0, it)
 
     -- a fault that a load can have
-<<<<<<< HEAD
-    pub load_fault : {X : Type 0} (f : AFault) → IsLoadFault (Fault f) → IsClean g old → IsClean g new → ReadAnswers g {X = X} old new (Err (Fault f))
-        → Stands g Is old → LoadsOne g Is old new (Err (Fault f))
+    pub load_fault : {X : Type 0} (f : AFault) → IsLoadFault (Fault f) → IsClean old → IsClean new → ReadAnswers {X = X} old new (Err (Fault f))
+        → Stands Is old → LoadsOne Is old new (Err (Fault f))
     load_fault OutOfMemory may was_clean clean answers stands = tt
     load_fault Store may was_clean clean answers stands = failed_for_cause was_clean clean answers stands
     load_fault Reopen may was_clean clean answers stands = elim may [ inl read ↦ elim read [ inl store ↦ elim store [ inl e ↦ absurd cc | inr e ↦ absurd cc ] | inr e ↦ absurd cc ] | inr e ↦ absurd cc ]
     load_fault Input may was_clean clean answers stands = elim may [ inl read ↦ elim read [ inl store ↦ elim store [ inl e ↦ absurd cc | inr e ↦ absurd cc ] | inr e ↦ absurd cc ] | inr e ↦ absurd cc ]
     load_fault Output may was_clean clean answers stands = elim may [ inl read ↦ elim read [ inl store ↦ elim store [ inl e ↦ absurd cc | inr e ↦ absurd cc ] | inr e ↦ absurd cc ] | inr e ↦ absurd cc ]
-=======
-    pub load_fault : (f : AFault) → IsLoadFault (Fault f) → LoadsOne Is old new (Err (Fault f))
-    load_fault OutOfMemory may = tt
-    load_fault Store may = tt
-    load_fault Reopen may = elim may [ inl read ↦ elim read [ inl store ↦ elim store [ inl e ↦ absurd cc | inr e ↦ absurd cc ] | inr e ↦ absurd cc ] | inr e ↦ absurd cc ]
-    load_fault Input may = elim may [ inl read ↦ elim read [ inl store ↦ elim store [ inl e ↦ absurd cc | inr e ↦ absurd cc ] | inr e ↦ absurd cc ] | inr e ↦ absurd cc ]
-    load_fault Output may = elim may [ inl read ↦ elim read [ inl store ↦ elim store [ inl e ↦ absurd cc | inr e ↦ absurd cc ] | inr e ↦ absurd cc ] | inr e ↦ absurd cc ]
->>>>>>> b4b8cd67 (Above the storage layer no contract names the store, its tree or its schema (crates above ob_store are not checked yet))
 
     pub loads_one : LoadLaw g → (r : Result ⊤ Stop) → Loads old new r → IsClean new → Stands Is old → LoadsOne Is old new r
     loads_one law (Ok done) loads clean stands = load_found law loads clean stands
@@ -222,13 +201,8 @@ module _ {S T : Type 0} {g : Ghosts S} (old new : Keeper S T g) where
         let found = old_book it in
         let was_clean = loads.clean clean in
         let live = loads.answers.live clean tt in
-<<<<<<< HEAD
-        told_old ⊤ r (states_old g old found.0 found.2 was_clean live) it (loads.outdated clean (shows_old g old found.0 found.2 was_clean live))
-    loads_one law (Err (Fault f)) loads clean stands = load_fault f loads.stops (loads.clean clean) clean loads.answers stands
-=======
         told_old ⊤ r (states_old old found.0 found.2 was_clean live) it (loads.outdated clean (shows_old old found.0 found.2 was_clean live))
-    loads_one law (Err (Fault f)) loads clean stands = load_fault f loads.stops
->>>>>>> b4b8cd67 (Above the storage layer no contract names the store, its tree or its schema (crates above ob_store are not checked yet))
+    loads_one law (Err (Fault f)) loads clean stands = load_fault f loads.stops (loads.clean clean) clean loads.answers stands
 
     -- ---- a stored reply, and what was moved
     replied_by : (n : ℕ) (r : Result (Option GivenReply) Stop) (x : ActState) → Is x → Replied old new x n r → Stands Is new
@@ -378,36 +352,7 @@ module _ {S T : Type 0} {g : Ghosts S} (old new : Keeper S T g) where
       | inr it ↦ acted_by r it.0 it.1 (acted it.0 it.2 it.3)
     ]
 
-<<<<<<< HEAD
 -- what a load finds that is the last of some calls
-pub finds : {S : Type 0} (g : Ghosts S) (Is : ActState → Type 0) (old new : KeeperValue S) (r : Result ⊤ Stop) → Stands g Is old → Loads g old new r
-    → LoadsOne g Is old new r → Finds g Is new r
-finds g Is old new r stands loads one = record { before = old; stands = stands; loads = loads; one = one }
-=======
--- what a load finds, of the keeper that it leaves
-pub finds : {S T : Type 0} {g : Ghosts S} (Is : ActState → Type 0) (old new : Keeper S T g) (r : Result ⊤ Stop) → LoadsOne Is old new r → Finds Is new r
-finds Is old new (Ok done) found = found
-finds Is old new (Err (Refused (BadField at))) found = found
-finds Is old new (Err (Refused UnknownName)) found = found
-finds Is old new (Err (Refused NameTaken)) found = found
-finds Is old new (Err (Refused OutOfPeriod)) found = found
-finds Is old new (Err (Refused UnknownEntry)) found = found
-finds Is old new (Err (Refused (Stale revision))) found = found
-finds Is old new (Err (Refused Withdrawn)) found = found
-finds Is old new (Err (Refused UnknownCustomer)) found = found
-finds Is old new (Err (Refused BadService)) found = found
-finds Is old new (Err (Refused (RefConflict id))) found = found
-finds Is old new (Err (Refused (Full most))) found = found
-finds Is old new (Err (Refused MarkedAlready)) found = found
-finds Is old new (Err (Refused NotMarked)) found = found
-finds Is old new (Err (Refused UnknownCause)) found = found
-finds Is old new (Err (Refused BadPeriod)) found = found
-finds Is old new (Err (Refused BadBook)) found = found
-finds Is old new (Err (Refused BadLife)) found = found
-finds Is old new (Err (Refused (OldVersion version))) found = found.0
-finds Is old new (Err (Fault OutOfMemory)) found = found
-finds Is old new (Err (Fault Store)) found = found
-finds Is old new (Err (Fault Reopen)) found = found
-finds Is old new (Err (Fault Input)) found = found
-finds Is old new (Err (Fault Output)) found = found
->>>>>>> b4b8cd67 (Above the storage layer no contract names the store, its tree or its schema (crates above ob_store are not checked yet))
+pub finds : {S T : Type 0} {g : Ghosts S} (Is : ActState → Type 0) (old new : Keeper S T g) (r : Result ⊤ Stop) → Stands Is old → Loads old new r
+    → LoadsOne Is old new r → Finds Is new r
+finds Is old new r stands loads one = record { before = old; stands = stands; loads = loads; one = one }

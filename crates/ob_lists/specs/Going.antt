@@ -16,15 +16,9 @@ use Rattle.ob_book.specs.Forecasts.{forecast_text_of}
 use Rattle.ob_sql_rows.specs.declared.table.Table.{Table}
 use Rattle.ob_import.specs.Imports.{Says}
 use Rattle.ob_import.specs.Reports.{AreRows}
-<<<<<<< HEAD
-use Rattle.ob_store.specs.Calls.{ForgetsNoFault, HasCommandCause, HasWorkCause, OpensAfter, StoreFailed}
-use Rattle.ob_store.specs.Crashing.{Loads}
-use Rattle.ob_store.specs.Keepers.{Ghosts, IsClean, KeeperValue, StoresNumbers, Ties}
-=======
-use Rattle.ob_store.specs.Calls.{ForgetsNoFault, HasCommandCause, HasWorkCause, OpensAfter}
+use Rattle.ob_store.specs.Calls.{Created, ForgetsNoFault, HasCommandCause, HasWorkCause, Loads, OpensAfter, StoreFailed}
 use Rattle.ob_store.specs.Keepers.{Ghosts, IsClean, StoresNumbers, Ties, book_of}
 use Rattle.ob_store.specs.declared.keeper.Keeper.{Keeper}
->>>>>>> b4b8cd67 (Above the storage layer no contract names the store, its tree or its schema (crates above ob_store are not checked yet))
 use Rattle.ob_http_requests.specs.Message.{Message}
 use Rattle.ob_lists.specs.Importing.{Ended, body_of, counted}
 use Rattle.ob_lists.specs.Streaming.{Accepts, Acknowledges, AnswersStream, Sends, Stream}
@@ -67,23 +61,15 @@ RefusesOne Is command why = (x : ActState) × Is x × (refusal x.book command �
 abbrev pub OfOne : {S T X : Type 0} {g : Ghosts S} → (ActState → Type 0) → Keeper S T g → Result X Stop → (ActState → Type 0) → Type 0
 OfOne Is old result Answers = ((book_of old ≡ None) × (result ≡ Err (Fault Reopen))) ⊎ ((x : ActState) × Is x × Answers x)
 
-<<<<<<< HEAD
-module _ {S : Type 0} (g : Ghosts S) where
+module _ {S T : Type 0} {g : Ghosts S} where
   -- a load finds one of these books, or tells that it is of version 1, which it then is; or memory was refused, or the store failed,
   -- for a cause
-  abbrev pub LoadsOne : (ActState → Type 0) → KeeperValue S → KeeperValue S → Result ⊤ Stop → Type 0
-  LoadsOne Is old new (Ok done) = (b : ActState) × Is b × Ties g new b × (new.book ≡ Some b.book)
-  LoadsOne Is old new (Err (Refused (OldVersion version))) = (version ≡ 1) × (KeptOld g Is old ⊎ InUpgrade g Is old)
-=======
-module _ {S T : Type 0} {g : Ghosts S} where
-  -- a load finds one of these books, or tells that it is of version 1; or memory was refused, or the store failed
   abbrev pub LoadsOne : (ActState → Type 0) → Keeper S T g → Keeper S T g → Result ⊤ Stop → Type 0
   LoadsOne Is old new (Ok done) = (b : ActState) × Is b × Ties new b × (book_of new ≡ Some b.book)
   LoadsOne Is old new (Err (Refused (OldVersion version))) = (version ≡ 1) × (KeptOld Is old ⊎ InUpgrade Is old)
->>>>>>> b4b8cd67 (Above the storage layer no contract names the store, its tree or its schema (crates above ob_store are not checked yet))
   LoadsOne Is old new (Err (Refused refusal)) = ⊥
   LoadsOne Is old new (Err (Fault OutOfMemory)) = ⊤
-  LoadsOne Is old new (Err (Fault Store)) = StoreFailed g old new
+  LoadsOne Is old new (Err (Fault Store)) = StoreFailed old new
   LoadsOne Is old new (Err (Fault fault)) = ⊥
 
   -- an audit finds no table that differs from those of one of these books; or it stops as a load may
@@ -91,23 +77,12 @@ module _ {S T : Type 0} {g : Ghosts S} where
   AuditsOne Is old new (Ok found) = found ≡ None
   AuditsOne Is old new (Err stop) = LoadsOne Is old new (Err stop)
 
-<<<<<<< HEAD
   -- what the load finds that is the last of some calls: the store of the keeper before it had one of these books
-  pub record Finds (Is : ActState → Type 0) (new : KeeperValue S) (result : Result ⊤ Stop) : Type 0 where
-    pub before : KeeperValue S
-    pub stands : Stands g Is before
-    pub loads : Loads g before new result
+  pub record Finds (Is : ActState → Type 0) (new : Keeper S T g) (result : Result ⊤ Stop) : Type 0 where
+    pub before : Keeper S T g
+    pub stands : Stands Is before
+    pub loads : Loads before new result
     pub one : LoadsOne Is before new result
-=======
-  -- what the load finds that is the last of some calls
-  abbrev pub Finds : (ActState → Type 0) → Keeper S T g → Result ⊤ Stop → Type 0
-  Finds Is new (Ok done) = (b : ActState) × Is b × Ties new b × (book_of new ≡ Some b.book)
-  Finds Is new (Err (Refused (OldVersion version))) = version ≡ 1
-  Finds Is new (Err (Refused refusal)) = ⊥
-  Finds Is new (Err (Fault OutOfMemory)) = ⊤
-  Finds Is new (Err (Fault Store)) = ⊤
-  Finds Is new (Err (Fault fault)) = ⊥
->>>>>>> b4b8cd67 (Above the storage layer no contract names the store, its tree or its schema (crates above ob_store are not checked yet))
 
   -- what a load finds where a book of a period was to be made in a database that held nothing: that book where it was made, that
   -- or none where the store failed, and else none
@@ -117,6 +92,14 @@ module _ {S T : Type 0} {g : Ghosts S} where
   Begun first days zone (Err (Fault Store)) new result =
       (p : Calendar) × IsPeriodText first days zone p × (Finds (λ x. x ≡ start p) new result ⊎ IsErr result)
   Begun first days zone (Err (Fault fault)) new result = IsErr result
+
+  -- a new book was to be made of some keeper, which ended so, and left this one
+  abbrev pub CreatedLast : Keeper S T g → List ℕ → ℕ → List ℕ → Result ⊤ Stop → Type 0
+  CreatedLast new first days zone result = (before : Keeper S T g) × Created before new first days zone result
+
+  -- a new book was to be made of this keeper, which ended so, and left some keeper
+  abbrev pub CreatedFirst : Keeper S T g → List ℕ → ℕ → List ℕ → Result ⊤ Stop → Type 0
+  CreatedFirst old first days zone result = (made : Keeper S T g) × Created old made first days zone result
 
   -- where the store is told to have failed on a command, that has its cause, over one of these books
   abbrev pub ActsForCause : {X : Type 0} → (ActState → Type 0) → Keeper S T g → Keeper S T g → Referenced → Result X Stop → Type 0

@@ -24,18 +24,9 @@ module _ {S T : Type 0} {g : Ghosts S} (b : ActState) (told : List Told) (k : Ke
     pub has : (a : Referenced) → Contains told (acknowledged a) → Holds book a
     pub headline : IsHeadline book dim key which shown
 
-<<<<<<< HEAD
   -- The same where the book is loaded first, from an earlier state of the keeper. Nothing is shown where the period has no such key; or
   -- a load tells why, or memory was refused.
-  abbrev pub LoadsAndShows : KeeperValue S → Result (Option Shown) Stop → Type 0
+  abbrev pub LoadsAndShows : Keeper S T g → Result (Option Shown) Stop → Type 0
   LoadsAndShows old (Ok (Some shown)) = IsShownAfter shown
   LoadsAndShows old (Ok None) = ¬ (IsKey (day_count b.book.period) dim key)
-  LoadsAndShows old (Err stop) = LoadsOne g (MayBe b told) old k (Err stop)
-=======
-  -- The same where the book is loaded first. Nothing is shown where the period has no such key; or a load tells why, or memory was
-  -- refused.
-  abbrev pub LoadsAndShows : Result (Option Shown) Stop → Type 0
-  LoadsAndShows (Ok (Some shown)) = IsShownAfter shown
-  LoadsAndShows (Ok None) = ¬ (IsKey (day_count b.book.period) dim key)
-  LoadsAndShows (Err stop) = Finds (MayBe b told) k (Err stop)
->>>>>>> b4b8cd67 (Above the storage layer no contract names the store, its tree or its schema (crates above ob_store are not checked yet))
+  LoadsAndShows old (Err stop) = LoadsOne (MayBe b told) old k (Err stop)

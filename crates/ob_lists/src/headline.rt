@@ -41,45 +41,25 @@ pub fn show<S: Alter, T: Timeline>(
 }
 
 /// Loads the book after any list of calls, with crashes and openings between them, and shows it. A
-<<<<<<< HEAD
 /// load finds a book, unless memory is refused, the store fails for a cause, or the tables are of
 /// version 1; and what is shown is the headline of that book.
-pub fn load_and_show<R: Alter, S: Alter, T: Timeline>(
-=======
-/// load finds a book, unless memory is refused, the store fails or the tables are of version 1; and
-/// what is shown is the headline of that book.
 pub fn load_and_show<R: Alter, U: Timeline, S: Alter, T: Timeline>(
->>>>>>> b4b8cd67 (Above the storage layer no contract names the store, its tree or its schema (crates above ob_store are not checked yet))
     keeper: &mut Keeper<S, T>,
     dim: Dim,
     key: u16,
     which: Which,
 ) -> Result<Option<Shown>, Stop>
-<<<<<<< HEAD
-    ensures shows { IsClean S.Store keeper.new → (b : ActState) (told : List Told)
-        → Stands S.Store (MayBe b told) keeper.old
-        → LoadsAndShows S.Store b told keeper.new dim key which keeper.old result }
-    // from a keeper that had the book at first, by whatever calls, crashes and openings
-    ensures after { IsClean S.Store keeper.new → (b : ActState) (told : List Told)
-        (first : KeeperValue R) → Stands R.Store (MayBe b []) first
-        → Goes R.Store S.Store told first keeper.old
-        → LoadsAndShows S.Store b told keeper.new dim key which keeper.old result }
-    ensures goes { Goes S.Store S.Store [] keeper.old keeper.new }
-    // the load stopped so, for a cause as it states it, or memory was refused after it gave a book
-    ensures stops { IfErr result (λ stop. Loads S.Store keeper.old keeper.new (Err stop)
-        ⊎ (IsSome keeper.new.book × (stop ≡ out_of_memory))) }
-=======
     ensures shows { IsClean keeper.new → (b : ActState) (told : List Told)
-        → Stands (MayBe b told) keeper.old → LoadsAndShows b told keeper.new dim key which result }
+        → Stands (MayBe b told) keeper.old
+        → LoadsAndShows b told keeper.new dim key which keeper.old result }
     // from a keeper that had the book at first, by whatever calls, crashes and openings
     ensures after { IsClean keeper.new → (b : ActState) (told : List Told)
         (first : AKeeper R U R.Store) → Stands (MayBe b []) first → Goes told first keeper.old
-        → LoadsAndShows b told keeper.new dim key which result }
+        → LoadsAndShows b told keeper.new dim key which keeper.old result }
     ensures goes { Goes [] keeper.old keeper.new }
-    // the load stopped so, for a cause as it states it, or memory was refused after it
+    // the load stopped so, for a cause as it states it, or memory was refused after it gave a book
     ensures stops { IfErr result (λ stop. Loads keeper.old keeper.new (Err stop)
-        ⊎ (stop ≡ out_of_memory)) }
->>>>>>> b4b8cd67 (Above the storage layer no contract names the store, its tree or its schema (crates above ob_store are not checked yet))
+        ⊎ (IsSome (book_of keeper.new) × (stop ≡ out_of_memory))) }
 {
     next_law();
     told_law();

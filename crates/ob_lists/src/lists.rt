@@ -3,10 +3,9 @@ ghost use Rattle.std.specs.Prelude.{◌++◌, List, Some, IsErr, OnOk};
 ghost use Rattle.ob_csv.specs.Rows.{rows_of};
 ghost use Rattle.ob_book.specs.Acts.{ActState};
 ghost use Rattle.ob_store.specs.Acting.{under};
-ghost use Rattle.ob_store.specs.Creating.{Created};
-ghost use Rattle.ob_store.specs.Keepers.{HoldsNothing, IsClean, KeeperValue};
+ghost use Rattle.ob_store.specs.Keepers.{HoldsNothing, IsClean};
 ghost use Rattle.ob_lists.specs.Standing.{MayBe, Stands, Told, told_by, told_by_import};
-ghost use Rattle.ob_lists.specs.Going.{Begun, BegunNumbered, Finds};
+ghost use Rattle.ob_lists.specs.Going.{Begun, BegunNumbered, CreatedFirst, CreatedLast, Finds};
 
 use crate::calls::{act, audit, create_again, import_text, load, migrate};
 use crate::laws::restart_law;
@@ -55,17 +54,10 @@ pub fn act_create<S: Alter, T: Timeline>(
     days: u16,
     zone: &[u8],
 ) -> (Result<Reply, Stop>, Result<(), Stop>)
-<<<<<<< HEAD
-    ensures stands { IsClean S.Store keeper.new → (b : ActState) (told : List Told)
-        → Stands S.Store (MayBe b told) keeper.old → IsErr result.1
-        × Stands S.Store (MayBe b (told_by (under reference command) result.0 ++ told)) keeper.new }
-    ensures created { (before : KeeperValue S)
-        × Created S.Store before keeper.new first.now days zone.now result.1 }
-=======
-    ensures { IsClean keeper.new → (b : ActState) (told : List Told)
+    ensures stands { IsClean keeper.new → (b : ActState) (told : List Told)
         → Stands (MayBe b told) keeper.old → IsErr result.1
         × Stands (MayBe b (told_by (under reference command) result.0 ++ told)) keeper.new }
->>>>>>> b4b8cd67 (Above the storage layer no contract names the store, its tree or its schema (crates above ob_store are not checked yet))
+    ensures created { CreatedLast keeper.new first.now days zone.now result.1 }
 {
     let sent = act(keeper, reference, command);
     (sent, create_again(keeper, first, days, zone))
@@ -103,15 +95,9 @@ pub fn create_act_restart_load<S: Alter, R: Alter, T: Timeline, C: Restart<S, R,
     reference: Ref,
     command: Command,
 ) -> (Result<(), Stop>, Result<Reply, Stop>, Keeper<R, T>)
-<<<<<<< HEAD
-    ensures begun { IsClean R.Store result.2 → OnOk result.0
-        (BegunNumbered R.Store first.now days zone.now
-=======
-    ensures { IsClean result.2 → OnOk result.0 (BegunNumbered first.now days zone.now
->>>>>>> b4b8cd67 (Above the storage layer no contract names the store, its tree or its schema (crates above ob_store are not checked yet))
+    ensures begun { IsClean result.2 → OnOk result.0 (BegunNumbered first.now days zone.now
         (told_by (under reference command) result.1) result.2) }
-    ensures created { (made : KeeperValue S)
-        × Created S.Store keeper made first.now days zone.now result.0 }
+    ensures created { CreatedFirst keeper first.now days zone.now result.0 }
 {
     restart_law::<S, T, R, T>();
     crash_law::<S, R>();
@@ -195,15 +181,9 @@ pub fn create_import_restart_load<S: Alter, R: Alter, T: Timeline, C: Restart<S,
     Result<ImportReport, ImportFault>,
     Keeper<R, T>,
 )
-<<<<<<< HEAD
-    ensures begun { IsClean R.Store result.2 → OnOk result.0
-        (BegunNumbered R.Store first.now days zone.now
-=======
-    ensures { IsClean result.2 → OnOk result.0 (BegunNumbered first.now days zone.now
->>>>>>> b4b8cd67 (Above the storage layer no contract names the store, its tree or its schema (crates above ob_store are not checked yet))
+    ensures begun { IsClean result.2 → OnOk result.0 (BegunNumbered first.now days zone.now
         (told_by_import (Some (rows_of text.now)) result.1) result.2) }
-    ensures created { (made : KeeperValue S)
-        × Created S.Store keeper made first.now days zone.now result.0 }
+    ensures created { CreatedFirst keeper first.now days zone.now result.0 }
 {
     restart_law::<S, T, R, T>();
     crash_law::<S, R>();

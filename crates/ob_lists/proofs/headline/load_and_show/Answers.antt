@@ -13,13 +13,7 @@ returns-in-Ok-clause-after g c =
     (goes_from b told first c.args.keeper.now begun goes (c.in-Ok.ensures.goes.clean clean))
 
 pub returns-in-Err-clause-shows : goal.returns-in-Err-clause-shows
-<<<<<<< HEAD
 returns-in-Err-clause-shows g c = λ clean b told stands. c.in-Err.ensures.loads clean b told stands
-=======
-returns-in-Err-clause-shows g c =
-    λ clean b told stands. stopped_shows c.next_law.ensures.period c.told_law.ensures.commands b told c.load.new.keeper c.args.dim c.args.key
-    c.args.which c.args.keeper.now c.in-Err.stop (c.in-Err.ensures.loads clean b told stands)
->>>>>>> b4b8cd67 (Above the storage layer no contract names the store, its tree or its schema (crates above ob_store are not checked yet))
 
 pub returns-in-Err-clause-after : goal.returns-in-Err-clause-after
 returns-in-Err-clause-after g c =

@@ -16,8 +16,4 @@ returns g c =
     let all = told_by_import (Some (rows_of c.args.text.now)) c.import_text-done.result ++ first in
     let sent = c.act-sent.ensures.goes.stands (c.import_text-done.ensures.goes.clean left) b told stands in
     let was = goes.stands opened b all (c.import_text-done.ensures.goes.stands left b first sent) in
-<<<<<<< HEAD
-    finds g.R.Store (MayBe b all) next.result c.load-found.new.keeper c.load-found.result was c.load-found.ensures.load (c.load-found.ensures.loads clean b all was)
-=======
-    finds (MayBe b all) next.result c.load-found.new.keeper c.load-found.result (c.load-found.ensures.loads clean b all was)
->>>>>>> b4b8cd67 (Above the storage layer no contract names the store, its tree or its schema (crates above ob_store are not checked yet))
+    finds (MayBe b all) next.result c.load-found.new.keeper c.load-found.result was c.load-found.ensures.load (c.load-found.ensures.loads clean b all was)

@@ -11,8 +11,4 @@ returns g c =
     let loaded = c.load-2.ensures.goes.clean clean in
     let sent = c.load.ensures.goes.clean loaded in
     let was = c.load.ensures.goes.stands loaded b all (c.act-sent.ensures.goes.stands sent b told stands) in
-<<<<<<< HEAD
-    finds g.S.Store (MayBe b all) c.load.new.keeper c.load-2.new.keeper c.load-2.result was c.load-2.ensures.load (c.load-2.ensures.loads clean b all was)
-=======
-    finds (MayBe b all) c.load.new.keeper c.load-2.new.keeper c.load-2.result (c.load-2.ensures.loads clean b all was)
->>>>>>> b4b8cd67 (Above the storage layer no contract names the store, its tree or its schema (crates above ob_store are not checked yet))
+    finds (MayBe b all) c.load.new.keeper c.load-2.new.keeper c.load-2.result was c.load-2.ensures.load (c.load-2.ensures.loads clean b all was)

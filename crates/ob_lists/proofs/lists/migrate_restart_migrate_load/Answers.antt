@@ -11,8 +11,4 @@ returns g c =
     let opened = c.migrate-2.ensures.goes.clean migrated in
     let left = c.migrate.ensures.goes.stands (goes.clean opened) b told stands in
     let was = c.migrate-2.ensures.goes.stands migrated b told (goes.stands opened b told left) in
-<<<<<<< HEAD
-    finds g.R.Store (MayBe b told) c.migrate-2.new.keeper c.load-found.new.keeper c.load-found.result was c.load-found.ensures.load (c.load-found.ensures.loads clean b told was)
-=======
-    finds (MayBe b told) c.migrate-2.new.keeper c.load-found.new.keeper c.load-found.result (c.load-found.ensures.loads clean b told was)
->>>>>>> b4b8cd67 (Above the storage layer no contract names the store, its tree or its schema (crates above ob_store are not checked yet))
+    finds (MayBe b told) c.migrate-2.new.keeper c.load-found.new.keeper c.load-found.result was c.load-found.ensures.load (c.load-found.ensures.loads clean b told was)
