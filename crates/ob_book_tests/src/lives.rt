@@ -1,43 +1,73 @@
 //! Tests of devices whose in-service intervals (lives) begin and end within the period: outside its
 //! life a device is open.
-use crate::example::{ANY, ONE_DAY, Story, TWO_DAYS, tell};
-use crate::feeders::{OUTAGE, TWO_FEEDERS};
+use crate::example::tell;
+use crate::feeders::{OUTAGE, TWO_FEEDERS, shows, shows_after_outage};
+use crate::step::{ONE_DAY, Step};
+use std::alloc::Global;
+use std::process::Abort;
 use std::test::Fail;
 
-// After the outage: the tie's life ends while the tie supplies S2, so no entry cut S2 off.
-const TIE_GOES: &'static str =
+/// After the outage: the tie's life ends while the tie supplies S2, so no entry cut S2 off.
+pub const TIE_GOES: &'static str =
     "life T1 0 1704073200 => cause 0 241200, feeder 1 241200, day 0 241200";
+
+#[test]
+fn the_tie_goes_while_it_supplies(rt: HostRuntime) -> Result<(), Fail> {
+    shows_after_outage(&rt, rt.alloc(), TIE_GOES, 250_200)
+}
+
+/// After the outage: the life of a new tie begins after the outage began, and the tie supplies S1
+/// from then on.
+pub const JOINS_IN_OUTAGE: &'static str =
+    "device X1 BUS-A S1 closed 1704072200 - => cause 3 -4400, feeder 1 -4400, day 0 -4400";
+
+#[test]
+fn a_tie_that_joins_after_an_outage_began(rt: HostRuntime) -> Result<(), Fail> {
+    let quotients = &[(1, 2), (23, 3), (46, 3), (1, 1), (4_297, 4_320), (1, 2)];
+    let steps = [
+        Step::Take(TWO_FEEDERS),
+        Step::Take(OUTAGE),
+        Step::Take(JOINS_IN_OUTAGE),
+        Step::Shows(4_600),
+        Step::Quotients(quotients),
+    ];
+    tell(&rt, rt.alloc(), ONE_DAY, &steps)
+}
+
+/// The life of S3's breaker ends, and an entry opens the breaker in the first second after its
+/// life.
+pub const BREAKER_GONE: &'static str = "\
+life B2 0 1704070800 => cause 0 414000, feeder 2 414000, day 0 414000
+switch B2 open 1704070800 4 K1
+";
+
+/// After that: the breaker opens in the last second of its life, so this opening cuts S3 off.
+pub const OPENED_IN_ITS_LAST_SECOND: &'static str =
+    "switch B2 open 1704070799 4 K1 => cause 0 -414000, cause 4 414005, feeder 2 5, day 0 5";
+
+#[test]
+fn opened_where_its_life_ends_and_before(rt: HostRuntime) -> Result<(), Fail> {
+    let steps = [
+        Step::Take(TWO_FEEDERS),
+        Step::Take(BREAKER_GONE),
+        Step::Take(OPENED_IN_ITS_LAST_SECOND),
+        Step::Shows(414_005),
+    ];
+    tell(&rt, rt.alloc(), ONE_DAY, &steps)
+}
+
+// Commands after the outage, and the total that they leave.
+const AFTER_OUTAGE: &'static [(&'static str, u64)] = &[
+    (TIE_STAYS, 9_000),
+    (PARTS_JOIN, 9_000),
+    (CLOSED_BEFORE_ITS_LIFE, 9_000),
+];
 
 // The tie's life ends while the tie supplies S2; then the life is set without an end.
 const TIE_STAYS: &'static str = "\
 life T1 0 1704073200 => cause 0 241200, feeder 1 241200, day 0 241200
 life T1 0 - => cause 0 -241200, feeder 1 -241200, day 0 -241200
 ";
-
-// After the outage: the life of a new tie begins after the outage began, and the tie supplies S1
-// from then on.
-const JOINS_IN_OUTAGE: &'static str =
-    "device X1 BUS-A S1 closed 1704072200 - => cause 3 -4400, feeder 1 -4400, day 0 -4400";
-
-const JOINED_IN_OUTAGE: &'static str = "\
-SAIFI     all      1/2 0.500
-SAIDI     all      23/3 7.667
-CAIDI     all      46/3 15.333
-CAIFI     all      1/1 1.000
-ASAI      all      4297/4320 0.995
-CEMI-1    all      1/2 0.500
-";
-
-// The life of S3's breaker ends, and an entry opens the breaker in the first second after its
-// life.
-const BREAKER_GONE: &'static str = "\
-life B2 0 1704070800 => cause 0 414000, feeder 2 414000, day 0 414000
-switch B2 open 1704070800 4 K1
-";
-
-// After that: the breaker opens in the last second of its life, so this opening cuts S3 off.
-const OPENED_IN_ITS_LAST_SECOND: &'static str =
-    "switch B2 open 1704070799 4 K1 => cause 0 -414000, cause 4 414005, feeder 2 5, day 0 5";
 
 // A new bus and a new section move nothing; a customer of the section has no supply until a device
 // joins the section to the bus. Then the device's life is set twice.
@@ -59,6 +89,32 @@ switch X1 close 1704071200 3 K1 => cause 3 -4400, feeder 1 -4400, day 0 -4400
 life X1 1704072200 1704073200 => cause 0 2400, feeder 1 2400, day 0 2400
 withdraw 5 1 => cause 0 -2400, cause 3 4400, feeder 1 2000, day 0 2000
 ";
+
+fn are_shown_after_outage(
+    rt: &impl Abort,
+    alloc: Global,
+    stories: &[(&str, u64)],
+) -> Result<(), Fail> {
+    for (script, total) in stories {
+        shows_after_outage(rt, alloc, script, *total)?;
+    }
+    Ok(())
+}
+
+#[test]
+fn lives_after_an_outage(rt: HostRuntime) -> Result<(), Fail> {
+    are_shown_after_outage(&rt, rt.alloc(), AFTER_OUTAGE)
+}
+
+// Numbers of days, commands on the two feeders, and the total that they leave.
+const FROM_THE_START: &'static [(u16, &'static str, u64)] = &[
+    (1, OPENED_AS_IT_JOINS, 18_000),
+    (1, SET_AGAIN_AND_AGAIN, 414_000),
+    (1, TAKES_THE_PLACE, 412_000),
+    (1, CONNECTED, 412_000),
+    (1, AT_THE_BOUNDS, 0),
+    (2, OVER_MIDNIGHT, 0),
+];
 
 // S3 has no supply until its breaker's life begins, and an entry opens the breaker in that second:
 // the outage interval goes on from the start of the period. With the breaker's life from the start,
@@ -118,49 +174,14 @@ life B2 1704154800 - => cause 0 3000, feeder 2 3000, day 0 429000, day 1 -426000
 life B2 0 - => cause 0 -438000, feeder 2 -438000, day 0 -432000, day 1 -6000
 ";
 
-const LIVES: &'static [Story<'static>] = &[
-    (ONE_DAY, &[TWO_FEEDERS, OUTAGE, TIE_GOES], 3, 250_200, ""),
-    (ONE_DAY, &[TWO_FEEDERS, OUTAGE, TIE_STAYS], ANY, 9_000, ""),
-    (
-        ONE_DAY,
-        &[TWO_FEEDERS, OUTAGE, JOINS_IN_OUTAGE],
-        3,
-        4_600,
-        JOINED_IN_OUTAGE,
-    ),
-    (
-        ONE_DAY,
-        &[TWO_FEEDERS, BREAKER_GONE, OPENED_IN_ITS_LAST_SECOND],
-        4,
-        414_005,
-        "",
-    ),
-    (ONE_DAY, &[TWO_FEEDERS, OUTAGE, PARTS_JOIN], ANY, 9_000, ""),
-    (
-        ONE_DAY,
-        &[TWO_FEEDERS, OUTAGE, CLOSED_BEFORE_ITS_LIFE],
-        ANY,
-        9_000,
-        "",
-    ),
-    (ONE_DAY, &[TWO_FEEDERS, OPENED_AS_IT_JOINS], ANY, 18_000, ""),
-    (
-        ONE_DAY,
-        &[TWO_FEEDERS, SET_AGAIN_AND_AGAIN],
-        ANY,
-        414_000,
-        "",
-    ),
-    (ONE_DAY, &[TWO_FEEDERS, TAKES_THE_PLACE], ANY, 412_000, ""),
-    (ONE_DAY, &[TWO_FEEDERS, CONNECTED], ANY, 412_000, ""),
-    (ONE_DAY, &[TWO_FEEDERS, AT_THE_BOUNDS], ANY, 0, ""),
-    (TWO_DAYS, &[TWO_FEEDERS, OVER_MIDNIGHT], ANY, 0, ""),
-];
-
-#[test]
-fn lives_that_begin_and_end(rt: HostRuntime) -> Result<(), Fail> {
-    for story in LIVES {
-        tell(&rt, rt.alloc(), story)?;
+fn are_shown(rt: &impl Abort, alloc: Global, stories: &[(u16, &str, u64)]) -> Result<(), Fail> {
+    for (days, script, total) in stories {
+        shows(rt, alloc, *days, script, *total)?;
     }
     Ok(())
+}
+
+#[test]
+fn lives_from_the_start(rt: HostRuntime) -> Result<(), Fail> {
+    are_shown(&rt, rt.alloc(), FROM_THE_START)
 }

@@ -1,9 +1,10 @@
 //! Tests of the interruption rows that a book hands out.
-use crate::example::{ONE_DAY, Span, act_on};
+use crate::example::act_on;
 use crate::feeders::TWO_FEEDERS;
+use crate::step::{ONE_DAY, Span};
 use ob_book::Book;
 use ob_command::read_body;
-use ob_net::{Fault, Second};
+use ob_net::Fault;
 use ob_rows::{InterruptionRow, RowSink, each_row};
 use ob_sweep::Windowed;
 use ob_time::Period;
@@ -34,34 +35,60 @@ impl RowSink for Shelf {
     }
 }
 
-/// The book of a period after the commands of scripts. A line may end with ` => ` and what its
-/// command has to move.
-pub fn book_of(
-    rt: &impl Abort,
-    alloc: Global,
-    span: Span,
-    scripts: &[&str],
-) -> Result<Book<Windowed>, Fail> {
+/// The book of a period after the commands of scripts.
+pub fn book_of(alloc: Global, span: Span, scripts: &[&str]) -> Result<Book<Windowed>, Fail> {
     let period = Period::from_text(alloc, span.0, span.1, span.2)?;
     let mut book = Book::new(alloc, period)?;
     for script in scripts {
-        enter(rt, alloc, &mut book, script)?;
+        enter(alloc, &mut book, script)?;
     }
     Ok(book)
 }
 
-/// Applies the commands of a script.
-pub fn enter(
-    rt: &impl Abort,
-    alloc: Global,
-    book: &mut Book<Windowed>,
-    script: &str,
-) -> Result<(), Fail> {
-    for line in script.lines() {
-        let (body, wanted) = line.split_once(" => ").unwrap_or((line, ""));
+fn enter(alloc: Global, book: &mut Book<Windowed>, script: &str) -> Result<(), Fail> {
+    for body in script.lines() {
         let command = read_body(body.as_bytes()).ok_or("a command")?;
-        let (found, _) = act_on(alloc, book, &command)?;
-        assert!(rt; wanted == "" || found.as_str() == wanted, "{body}: {found}");
+        let _ = act_on(alloc, book, &command)?;
+    }
+    Ok(())
+}
+
+// A row as a line: section, feeder, customers, their service, the interruption, cause, entry, and
+// whether its day is marked.
+fn line_of(alloc: Global, row: &InterruptionRow) -> Result<String, Fail> {
+    let service = format!(in alloc;
+        "{} {}",
+        row.service_since,
+        or_dash(alloc, row.service_until)?
+    )?;
+    let entry = or_dash(alloc, row.entry.map(u64::from))?;
+    let day = if row.marked { "marked" } else { "-" };
+    let line = format!(in alloc;
+        "{} {} {} {service} {} {} {} {entry} {day}",
+        row.section, row.feeder, row.customers, row.since, row.until, row.cause
+    )?;
+    Ok(line)
+}
+
+fn or_dash(alloc: Global, number: Option<u64>) -> Result<String, Fail> {
+    match number {
+        Some(number) => Ok(format!(in alloc; "{number}")?),
+        None => Ok(format!(in alloc; "-")?),
+    }
+}
+
+// Checks which rows a book hands out.
+fn hands(rt: &impl Abort, alloc: Global, book: &Book<Windowed>, wanted: &str) -> Result<(), Fail> {
+    let mut shelf = Shelf {
+        rows: Vec::new(alloc),
+        room: 1_000,
+    };
+    let count = each_row(book, &mut shelf).map_err(|_| "no room")?;
+    assert!(rt; count == shelf.rows.len() as u64);
+    assert!(rt; wanted.lines().count() == shelf.rows.len());
+    for (row, line) in shelf.rows.iter().zip(wanted.lines()) {
+        let found = line_of(alloc, row)?;
+        assert!(rt; found.as_str() == line, "{found}");
     }
     Ok(())
 }
@@ -79,71 +106,28 @@ connect 14 S9 1704067200 -
 mark 2024-01-01 E1
 ";
 
-// A row's section, feeder and customers; their service; the interruption; its cause and its entry.
-type Wanted = (
-    (u16, u8, u32),
-    (Second, Option<Second>),
-    (Second, Second),
-    (u8, Option<u32>),
-);
+const AROUND_IT: &'static str = "\
+4 2 5 1704067200 - 1704070800 1704074400 4 1 marked
+4 2 1 1704067200 1704071400 1704070800 1704071400 4 1 marked
+4 2 1 1704072600 - 1704072600 1704074400 4 1 marked
+5 9 1 1704067200 - 1704067200 1704153600 0 - marked
+";
 
-const BEGAN: Second = 1_704_070_800;
-
-const ENDED: Second = 1_704_074_400;
-
-const ROWS: &'static [Wanted] = &[
-    (
-        (4, 2, 5),
-        (1_704_067_200, None),
-        (BEGAN, ENDED),
-        (4, Some(1)),
-    ),
-    (
-        (4, 2, 1),
-        (1_704_067_200, Some(1_704_071_400)),
-        (BEGAN, 1_704_071_400),
-        (4, Some(1)),
-    ),
-    (
-        (4, 2, 1),
-        (1_704_072_600, None),
-        (1_704_072_600, ENDED),
-        (4, Some(1)),
-    ),
-    (
-        (5, 9, 1),
-        (1_704_067_200, None),
-        (1_704_067_200, 1_704_153_600),
-        (0, None),
-    ),
-];
-
-// All of a marked day.
 #[test]
-fn rows_of_services_around_an_outage(rt: HostRuntime) -> Result<(), Fail> {
-    let book = book_of(&rt, rt.alloc(), ONE_DAY, &[TWO_FEEDERS, AROUND_AN_OUTAGE])?;
-    let mut shelf = Shelf {
-        rows: Vec::new(rt.alloc()),
-        room: 1_000,
-    };
-    assert!(rt; each_row(&book, &mut shelf) == Ok(4) && shelf.rows.len() == 4);
-    for (row, (section, service, interruption, cutter)) in shelf.rows.iter().zip(ROWS) {
-        assert!(rt; (row.section, row.feeder, row.customers) == *section);
-        assert!(rt; (row.service_since, row.service_until) == *service);
-        assert!(rt; (row.since, row.until) == *interruption);
-        assert!(rt; (row.cause, row.entry) == *cutter && row.marked);
-    }
-    Ok(())
+fn services_that_begin_and_end_around_an_outage(rt: HostRuntime) -> Result<(), Fail> {
+    let book = book_of(rt.alloc(), ONE_DAY, &[TWO_FEEDERS, AROUND_AN_OUTAGE])?;
+    hands(&rt, rt.alloc(), &book, AROUND_IT)
 }
 
 #[test]
 fn a_sink_that_fails_gets_no_more_rows(rt: HostRuntime) -> Result<(), Fail> {
-    let book = book_of(&rt, rt.alloc(), ONE_DAY, &[TWO_FEEDERS, AROUND_AN_OUTAGE])?;
+    let book = book_of(rt.alloc(), ONE_DAY, &[TWO_FEEDERS, AROUND_AN_OUTAGE])?;
     let mut shelf = Shelf {
         rows: Vec::new(rt.alloc()),
         room: 2,
     };
-    assert!(rt; each_row(&book, &mut shelf) == Err(Fault::Output));
+    let failed = matches!(each_row(&book, &mut shelf), Err(Fault::Output));
+    assert!(rt; failed);
     assert!(rt; shelf.rows.len() == 2);
     Ok(())
 }

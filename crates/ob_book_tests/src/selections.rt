@@ -1,8 +1,8 @@
 //! Tests of the indices of a book by feeder, month, day, cause and section. The wanted lines were
 //! found by `oracle/selections.py`.
-use crate::example::Span;
 use crate::feeders::TWO_FEEDERS;
 use crate::rows::book_of;
+use crate::step::Span;
 use ob_book::Book;
 use ob_index::Which;
 use ob_net::Second;
@@ -99,44 +99,39 @@ fn is_listed(
     listed: &Listed,
 ) -> Result<(), Fail> {
     let (by, longest, count, wanted) = *listed;
-    let bytes = indices_text(alloc, book, by, longest)?;
-    let text = String::from_utf8(bytes).ok().ok_or("a text")?;
+    let text = String::from_utf8(indices_text(alloc, book, by, longest)?).map_err(|_| "no text")?;
     let lines = text.as_str();
     assert!(rt; lines.lines().next() == Some(HEADER));
     assert!(rt; lines.lines().count() == count);
     for line in wanted.lines() {
-        assert!(rt; lines.contains(line), "{line}");
+        assert!(rt; lines.lines().any(|found| found == line), "{line}");
     }
     Ok(())
 }
 
-// A feeder, which interruptions, the counts CI, CSI, CN and MI of its customers, and the seconds
-// for which they are served.
-const COUNTS: &'static [(u8, Which, (u64, u64, u64, u64), u64)] = &[
-    (1, Which::All, (5, 18_000, 5, 0), 864_000),
-    (2, Which::All, (0, 0, 0, 5), 864_000),
-    (2, Which::Unmarked, (0, 0, 0, 0), 864_000),
-];
+// The counts CI, CSI, CN and MI of a feeder's customers, and the seconds for which they are served.
+fn counts_on(book: &Book<Windowed>, feeder: u8, which: Which) -> (u64, u64, u64, u64, u64) {
+    let selection = Selection {
+        feeder: Some(feeder),
+        section: None,
+        cause: None,
+        day: None,
+        first: 0,
+        end: book.period().days(),
+        which,
+        longest: 300,
+    };
+    let figures = figures_of(book, &selection);
+    let counts = figures.counts;
+    (counts.ci, counts.csi, counts.cn, counts.mi, figures.served)
+}
 
 #[test]
 fn counts_of_two_outages(rt: HostRuntime) -> Result<(), Fail> {
-    let book = book_of(&rt, rt.alloc(), THREE_DAYS, &[TWO_FEEDERS, OUTAGES])?;
-    for (feeder, which, wanted, served) in COUNTS {
-        let selection = Selection {
-            feeder: Some(*feeder),
-            section: None,
-            cause: None,
-            day: None,
-            first: 0,
-            end: book.period().days(),
-            which: *which,
-            longest: 300,
-        };
-        let figures = figures_of(&book, &selection);
-        let counts = figures.counts;
-        assert!(rt; (counts.ci, counts.csi, counts.cn, counts.mi) == *wanted);
-        assert!(rt; figures.served == *served);
-    }
+    let book = book_of(rt.alloc(), THREE_DAYS, &[TWO_FEEDERS, OUTAGES])?;
+    assert!(rt; counts_on(&book, 1, Which::All) == (5, 18_000, 5, 0, 864_000));
+    assert!(rt; counts_on(&book, 2, Which::All) == (0, 0, 0, 5, 864_000));
+    assert!(rt; counts_on(&book, 2, Which::Unmarked) == (0, 0, 0, 0, 864_000));
     Ok(())
 }
 
@@ -144,7 +139,7 @@ fn counts_of_two_outages(rt: HostRuntime) -> Result<(), Fail> {
 fn indices_of_two_outages(rt: HostRuntime) -> Result<(), Fail> {
     selections_law();
     sums_law();
-    let book = book_of(&rt, rt.alloc(), THREE_DAYS, &[TWO_FEEDERS, OUTAGES])?;
+    let book = book_of(rt.alloc(), THREE_DAYS, &[TWO_FEEDERS, OUTAGES])?;
     for listed in &LISTED {
         is_listed(&rt, rt.alloc(), &book, listed)?;
     }

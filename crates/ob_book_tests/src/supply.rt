@@ -1,6 +1,5 @@
 //! Tests of the supply at a second.
-use crate::example::ONE_DAY;
-use crate::rows::book_of;
+use crate::adopted::{counting_book, take_all};
 use std::test::Fail;
 
 // A section behind a breaker that is open for an hour, one that no device joins, and a tie whose
@@ -27,10 +26,11 @@ const SUPPLIES: &'static str = r#"1704067199 => none
 
 #[test]
 fn the_supply_around_an_outage(rt: HostRuntime) -> Result<(), Fail> {
-    let book = book_of(&rt, rt.alloc(), ONE_DAY, &[BREAKER])?;
+    let mut book = counting_book(rt.alloc())?;
+    take_all(&rt, rt.alloc(), &mut book, BREAKER)?;
     for line in SUPPLIES.lines() {
         let (second, wanted) = line.split_once(" => ").ok_or("a second")?;
-        let second = second.parse().ok().ok_or("a number")?;
+        let second = second.parse().map_err(|_| "a number")?;
         match book.supply_text(second)? {
             Some(text) => assert!(rt; text.as_slice() == wanted.as_bytes(), "{line}"),
             None => assert!(rt; wanted == "none", "{line}"),
