@@ -93,7 +93,7 @@ fn long_streams(rt: HostRuntime) -> Result<(), AllocError> {
             way: Ways { room: 24, ..WHOLE },
             end: Err(Fault::Output),
             written: b"HTTP/1.1 100 Continue\r\n\r",
-            ..long
+            commands: Some(0),
         },
     ];
     over_a_store(&rt, rt.alloc(), true, &Streams { rows, commands: 0 })

@@ -105,11 +105,15 @@ const NO_JSON: &'static [&'static [u8]] = &[
     b"\xef\xbb\xbf{}",
 ];
 
+fn is_refused(rt: &impl Abort, alloc: Global, body: &[u8]) {
+    let refused = Some(Stop::Refused(Refusal::BadField(0)));
+    assert!(rt; read_command(alloc, body).err() == refused);
+}
+
 #[test]
 fn bytes_that_are_no_json(rt: HostRuntime) {
     for body in NO_JSON {
-        let refused = Some(Stop::Refused(Refusal::BadField(0)));
-        assert!(rt; read_command(rt.alloc(), body).err() == refused);
+        is_refused(&rt, rt.alloc(), body);
     }
 }
 

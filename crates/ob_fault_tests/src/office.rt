@@ -1,12 +1,11 @@
 //! The calls of a `Keeper` over files that may stop, and the trials that use them.
-use ob_book::Book;
 use ob_command::{Command, read_row};
 use ob_desk::serve_stream;
 use ob_import::{ImportFault, ImportReport, Silent, import_text, import_whole};
 use ob_index::{Indices, Which};
-use ob_net::{Ref, Refusal, Stop, Watched};
-use ob_post::Dim;
-use ob_store::Keeper;
+use ob_net::{Fault, Ref, Refusal, Stop, Watched};
+use ob_post::{Dim, Moved, Postings};
+use ob_store::{Keeper, MoveSink};
 use ob_sweep::{Timeline, Windowed};
 use sqlite::{Alter, Connection};
 use std::alloc::Global;
@@ -15,15 +14,29 @@ use std::process::Abort;
 /// The answer to an import.
 pub type Report = Result<ImportReport, ImportFault>;
 
-/// What a book shows without allocating: its commands, its customer-seconds in all, by cause (none,
-/// STORM and PLANNED) and by feeder, and the indices.
+/// What a book shows without allocating: its commands, its customer-seconds in all and by cause and
+/// feeder, and the indices.
 #[derive(Clone, Copy, PartialEq)]
 pub struct Views {
     accepted: u32,
     totals: [u64; 3],
-    causes: [u64; 3],
-    feeders: [u64; 2],
+    causes: [u64; 5],
+    feeders: [u64; 3],
     indices: Indices,
+}
+
+/// A sink that takes no moved amount.
+#[derive(Drop)]
+struct NoRoom;
+
+impl MoveSink for NoRoom {
+    ghost use Rattle.std.specs.Prelude.{⊤};
+
+    ghost takes = { λ _ _ _ _ _. ⊤ };
+
+    fn take(&mut self, _cmd: u32, _m: &Moved) -> Result<(), Fault> {
+        Err(Fault::Output)
+    }
 }
 
 /// A book, or none, and the calls of its `Keeper` without their contracts: with these each function
@@ -47,8 +60,14 @@ pub trait Office {
     /// Answers whether there is a stored reply with this number.
     fn replies(&mut self, no: u32) -> Result<bool, Stop>;
 
-    /// Imports a text, row by row, or all of it or nothing.
-    fn takes(&mut self, alloc: Global, text: &[u8], whole: bool) -> Report;
+    /// Gives the moved amounts to a sink without room.
+    fn hands_on(&mut self) -> Result<u64, Stop>;
+
+    /// Imports a text.
+    fn takes(&mut self, alloc: Global, text: &[u8]) -> Report;
+
+    /// Imports all of a text or nothing.
+    fn takes_whole(&mut self, alloc: Global, text: &[u8]) -> Report;
 
     /// Serves a stream of these bytes. Answers the written bytes, and the fault that ended the
     /// stream.
@@ -73,26 +92,33 @@ fn asked(line: &str) -> Result<(Ref, Command), Refusal> {
     read_row(&row)
 }
 
-fn views_of<T: Timeline>(book: &Book<T>) -> Views {
-    let postings = book.postings();
-    Views {
-        accepted: book.accepted(),
-        totals: [
-            postings.total(Dim::Cause),
-            postings.total(Dim::Feeder),
-            postings.total(Dim::Day),
-        ],
-        causes: [
-            postings.amount(Dim::Cause, 0),
-            postings.amount(Dim::Cause, 3),
-            postings.amount(Dim::Cause, 4),
-        ],
-        feeders: [
-            postings.amount(Dim::Feeder, 1),
-            postings.amount(Dim::Feeder, 2),
-        ],
-        indices: book.index_view(Which::All),
-    }
+// The customer-seconds by each dimension.
+fn totals_of(postings: &Postings) -> [u64; 3] {
+    [
+        postings.total(Dim::Cause),
+        postings.total(Dim::Feeder),
+        postings.total(Dim::Day),
+    ]
+}
+
+// The customer-seconds of the first causes.
+fn causes_of(postings: &Postings) -> [u64; 5] {
+    [
+        postings.amount(Dim::Cause, 0),
+        postings.amount(Dim::Cause, 1),
+        postings.amount(Dim::Cause, 2),
+        postings.amount(Dim::Cause, 3),
+        postings.amount(Dim::Cause, 4),
+    ]
+}
+
+// The customer-seconds of the first feeders.
+fn feeders_of(postings: &Postings) -> [u64; 3] {
+    [
+        postings.amount(Dim::Feeder, 1),
+        postings.amount(Dim::Feeder, 2),
+        postings.amount(Dim::Feeder, 3),
+    ]
 }
 
 impl<S: Alter, T: Timeline> Office for Keeper<S, T> {
@@ -132,12 +158,16 @@ impl<S: Alter, T: Timeline> Office for Keeper<S, T> {
         }
     }
 
-    fn takes(&mut self, alloc: Global, text: &[u8], whole: bool) -> Report {
-        if whole {
-            import_whole(alloc, &mut Watched::new(text), self, &mut Silent)
-        } else {
-            import_text(alloc, text, self)
-        }
+    fn hands_on(&mut self) -> Result<u64, Stop> {
+        self.moves_out(&mut NoRoom)
+    }
+
+    fn takes(&mut self, alloc: Global, text: &[u8]) -> Report {
+        import_text(alloc, text, self)
+    }
+
+    fn takes_whole(&mut self, alloc: Global, text: &[u8]) -> Report {
+        import_whole(alloc, &mut Watched::new(text), self, &mut Silent)
     }
 
     fn serves(&mut self, alloc: Global, bytes: &[u8]) -> (Vec<u8>, Option<Stop>) {
@@ -159,7 +189,13 @@ impl<S: Alter, T: Timeline> Office for Keeper<S, T> {
 
     fn views(&self) -> Option<Views> {
         match self.book() {
-            Some(book) => Some(views_of(book)),
+            Some(book) => Some(Views {
+                accepted: book.accepted(),
+                totals: totals_of(book.postings()),
+                causes: causes_of(book.postings()),
+                feeders: feeders_of(book.postings()),
+                indices: book.index_view(Which::All),
+            }),
             None => None,
         }
     }

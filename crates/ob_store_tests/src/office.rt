@@ -1,15 +1,16 @@
 //! The calls of a `Keeper` that the tests use.
 use crate::rows::put_rows;
 use crate::texts::shown_text;
+use ob_book::Book;
 use ob_command::{Command, read_body};
 use ob_headline::shown;
 use ob_index::Which;
-use ob_net::{Fault, Ref, Refusal, Stop};
+use ob_net::{Fault, Life, Ref, Refusal, Second, Stop};
 use ob_post::Dim;
 use ob_store::{Keeper, Reply};
 use ob_sweep::Windowed;
-use sqlite::{Connection, MemStore};
-use std::alloc::Global;
+use sqlite::{Connection, Error, MemStore};
+use std::alloc::{AllocError, Global};
 
 /// The tables aren't those of a book.
 pub const BAD_BOOK: Result<(), Stop> = Err(Stop::Refused(Refusal::BadBook));
@@ -19,6 +20,9 @@ pub const OLD_VERSION: Result<(), Stop> = Err(Stop::Refused(Refusal::OldVersion(
 
 /// The tables aren't those of a book of version 1, and their version isn't 2 either.
 pub const NO_OLD_BOOK: Result<bool, Stop> = Err(Stop::Refused(Refusal::BadBook));
+
+/// The answer to a call that needs a book while there is none.
+pub const REOPEN: Stop = Stop::Fault(Fault::Reopen);
 
 /// A fault of the store.
 const STORE: Stop = Stop::Fault(Fault::Store);
@@ -35,8 +39,8 @@ pub trait Office: Drop {
     /// Reads the book that the tables hold.
     fn loads(&mut self) -> Result<(), Stop>;
 
-    /// Sends the command of a line, which is a reference and a body text. There always is a reply.
-    fn acts(&mut self, line: &str) -> Result<Option<Reply>, Stop>;
+    /// Sends the command of a line, which is a reference and a body text.
+    fn acts(&mut self, line: &str) -> Result<Reply, Stop>;
 
     /// The plan of the command of a line.
     fn plans(&mut self, line: &str) -> Result<Vec<u8>, Stop>;
@@ -54,15 +58,21 @@ pub trait Office: Drop {
     /// Answers whether there is a book.
     fn has_book(&self) -> bool;
 
+    /// The totals, the indices and the annual table of the book, and the lives of its devices.
+    fn texts(&self, alloc: Global) -> Result<Vec<u8>, Stop>;
+
     /// The amount under a key, the total, SAIDI and the texts of the book, or `none`.
     fn shows(&self, alloc: Global, dim: Dim, key: u16) -> Result<String, Stop>;
 
     /// Another `Keeper`, without a book, over the same tables after some statements.
     fn again(self, alloc: Global, sql: &str) -> Result<Self, Stop>;
 
-    /// Another `Keeper`, without a book, over the same tables, and the rows that these queries
-    /// find.
+    /// Another `Keeper`, without a book, over the same tables, and the rows that these queries find.
     fn rows(self, alloc: Global, queries: &[&'static str]) -> Result<(Self, Vec<u8>), Stop>;
+
+    /// Another `Keeper`, without a book, over the same tables, and the numbers that these queries
+    /// find.
+    fn numbers(self, alloc: Global, queries: &[&'static str]) -> Result<(Self, Vec<i64>), Stop>;
 }
 
 /// A `Keeper` over a store in memory.
@@ -76,18 +86,38 @@ fn adopted(alloc: Global, conn: Connection<MemStore>) -> Result<InMemory, Stop> 
     Ok(Keeper::adopt_connection(alloc, conn))
 }
 
-// A reference and the command of a body text.
-fn asked(line: &str) -> Option<(Ref, Command)> {
+/// A reference and the command of a body text.
+pub fn asked(line: &str) -> Option<(Ref, Command)> {
     let (reference, body) = line.split_once(" ")?;
     let reference = Ref::read(reference.as_bytes())?;
     let command = read_body(body.as_bytes())?;
     Some((reference, command))
 }
 
-// The plan of a command, by a function of its own: the prover can't borrow what it has just taken
-// out of an `Option`.
+// The plan of a command, by a function of its own: the prover can't borrow what it has just taken out
+// of an `Option`.
 fn planned(keeper: &mut InMemory, command: Command) -> Result<Vec<u8>, Stop> {
     keeper.plan(&command)
+}
+
+fn number(conn: &mut Connection<MemStore>, sql: &str) -> Result<i64, Error> {
+    conn.query_row(sql, &[])?.get(0)
+}
+
+// Appends a life to a text, with the largest number if it has no end.
+fn put_life(alloc: Global, text: &mut Vec<u8>, life: Life) -> Result<(), AllocError> {
+    let (since, until) = (life.since, life.until.unwrap_or(Second::MAX));
+    text.extend_from_slice(format!(in alloc; "{since} {until}\n")?.as_bytes())
+}
+
+fn texts_of(alloc: Global, book: &Book<Windowed>) -> Result<Vec<u8>, Stop> {
+    let mut text = book.totals_text()?;
+    text.extend_from_slice(&book.indices_text()?)?;
+    text.extend_from_slice(&book.annual_text()?)?;
+    for device in 0..book.net().devices() {
+        put_life(alloc, &mut text, book.net().life_of(device))?;
+    }
+    Ok(text)
 }
 
 impl Office for InMemory {
@@ -106,9 +136,9 @@ impl Office for InMemory {
         self.load()
     }
 
-    fn acts(&mut self, line: &str) -> Result<Option<Reply>, Stop> {
+    fn acts(&mut self, line: &str) -> Result<Reply, Stop> {
         match asked(line) {
-            Some((reference, command)) => Ok(Some(self.act(reference, command)?)),
+            Some((reference, command)) => self.act(reference, command),
             None => Err(Stop::Refused(Refusal::BadField(0))),
         }
     }
@@ -140,6 +170,13 @@ impl Office for InMemory {
         self.book().is_some()
     }
 
+    fn texts(&self, alloc: Global) -> Result<Vec<u8>, Stop> {
+        match self.book() {
+            Some(book) => texts_of(alloc, book),
+            None => Err(REOPEN),
+        }
+    }
+
     fn shows(&self, alloc: Global, dim: Dim, key: u16) -> Result<String, Stop> {
         match shown(self, dim, key, Which::All) {
             Ok(found) => Ok(shown_text(alloc, &found)?),
@@ -158,8 +195,20 @@ impl Office for InMemory {
     fn rows(self, alloc: Global, queries: &[&'static str]) -> Result<(InMemory, Vec<u8>), Stop> {
         let (mut conn, mut rows) = (self.into_connection(), Vec::new(alloc));
         for sql in queries {
-            put_rows(alloc, &mut conn, sql, &mut rows)?;
+            put_rows(&mut conn, sql, &mut rows)?;
         }
         Ok((adopted(alloc, conn)?, rows))
+    }
+
+    fn numbers(
+        self,
+        alloc: Global,
+        queries: &[&'static str],
+    ) -> Result<(InMemory, Vec<i64>), Stop> {
+        let (mut conn, mut numbers) = (self.into_connection(), Vec::new(alloc));
+        for sql in queries {
+            numbers.push(number(&mut conn, sql).map_err(|_| STORE)?)?;
+        }
+        Ok((adopted(alloc, conn)?, numbers))
     }
 }

@@ -35,8 +35,14 @@ fn customers_by_number(rt: HostRuntime) -> Result<(), Fail> {
     assert!(rt; roll.customer(5) == Some(five) && roll.customer(6) == None && !roll.is_full());
     assert!(rt; roll.revise(5, 10, Some(13)) == Ok(()));
     assert!(rt; roll.customer(5) == Some(service(5, 2, 10, Some(13))));
-    let roll = Roll::of_one(rt.alloc(), seven)?;
-    assert!(rt; roll.customers() == [seven].as_slice());
+    let one = Customer {
+        no: 7,
+        section: 1,
+        since: 4,
+        until: Some(9),
+    };
+    let roll = Roll::of_one(rt.alloc(), one)?;
+    assert!(rt; roll.customers() == [one].as_slice());
     Ok(())
 }
 
