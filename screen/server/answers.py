@@ -7,6 +7,7 @@ from collections.abc import Sequence
 from dataclasses import dataclass
 from typing import Any
 
+from .commands import members_of
 from .desk import Answer, Away
 from .reader import Moves
 from .state import Refused
@@ -66,8 +67,8 @@ class NotPlanned(Exception):
 
 def command_body(kind: str, fields: Sequence[str], ref: str = "") -> bytes:
     """A command as the desk reads it; an end that is none is left out."""
-    told = {f"f{place}": text for place, text in enumerate(fields, 1) if text not in ("", "-")}
-    return json.dumps({"kind": kind, **({"ref": ref} if ref else {}), **told}).encode()
+    told = members_of(kind, fields) | {"ref": ref}
+    return json.dumps({name: text for name, text in told.items() if text not in ("", "-")}).encode()
 
 
 def moves_in(reply: dict[str, Any]) -> Moves:

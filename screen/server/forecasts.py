@@ -42,8 +42,7 @@ async def forecast(office: Office, kind: str, fields: Sequence[str]) -> Json:
 
 def refusal_words(state: State, kind: str, fields: Sequence[str], refused: NotPlanned) -> str:
     """Why the desk wouldn't take a command, as a part of a sentence."""
-    told = {f"f{place}": text for place, text in enumerate(fields, 1)}
-    words = words_of(state, {"kind": kind, **told}, refused.reply)
+    words = words_of(state, kind, fields, refused.reply)
     return words[0].lower() + words[1:].removesuffix(".")
 
 

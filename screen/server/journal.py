@@ -4,15 +4,15 @@ from __future__ import annotations
 
 import json
 import os
-from collections.abc import Iterator
+from collections.abc import Iterator, Sequence
 from dataclasses import dataclass
 from datetime import datetime, timezone
 from pathlib import Path
 from typing import Any
 
+from .commands import fields_of
 from .names import Names, folded, name_in
 
-MOST_FIELDS = 6
 IMPORT, ELSEWHERE = "import", "elsewhere"  # kinds of sendings beside those of commands
 
 
@@ -24,7 +24,7 @@ class Sending:
     login: str
     reference: str
     kind: str
-    fields: tuple[str, ...] = ()
+    fields: Sequence[str] = ()
     outcome: str = "unanswered"  # or saved, refused
     number: int | None = None  # of the command, once it is saved
     remark: str = ""
@@ -61,8 +61,9 @@ class Journal:
         at, login, reference = second_of(row), str(row.get("login", "")), str(row.get("reference", ""))
         sent, commands = row.get("sent"), numbers_of(row.get("commands"))
         if isinstance(sent, dict):
-            fields = tuple(str(sent.get(f"f{place}", "")) for place in range(1, MOST_FIELDS + 1))
-            sending = Sending(at, login, reference, str(sent.get("kind")), fields, remark=str(row.get("remark", "")))
+            told = {name: str(text) for name, text in sent.items()}
+            kind, fields, remark = told.get("kind", ""), fields_of(told), str(row.get("remark", ""))
+            sending = Sending(at, login, reference, kind, fields, remark=remark)
             self.sendings.append(sending)
             self.open[login, reference] = sending
             if reference:

@@ -13,7 +13,7 @@ from typing import Any
 from . import refusals, undo, views
 from .answers import Plan, Supply, command_body, moves_in, plan_in, supply_in
 from .apart import Apart, Kept
-from .commands import FIELDS
+from .commands import fields_of
 from .desk import IMPORT_SECONDS, Answer, Away, Desk
 from .journal import Journal
 from .reader import Command, Moves, Past, past_outages, read_later, read_rows
@@ -200,9 +200,10 @@ class Office:
         except Away:
             pass
         shown: dict[str, Any] = {"error": "refused", "reply": reply, "text": answer.body.decode()}
-        shown["words"] = refusals.words_of(self.state, command, reply)
+        kind, fields = command["kind"], fields_of(command)
+        shown["words"] = refusals.words_of(self.state, kind, fields, reply)
         if reply.get("refused") in (7, 8):
-            shown["entry"] = refusals.stale_entry(self.state, command)
+            shown["entry"] = refusals.stale_entry(self.state, kind, fields)
         return shown
 
     async def import_rows(self, login: str, rows: bytes) -> tuple[int, dict[str, Any]]:
@@ -312,8 +313,7 @@ def is_canonical(command: Command) -> bool:
 
 def accepted(number: int, command: dict[str, str]) -> Command:
     """A command as the book keeps it: its fields, with `-` for an end that is none and 0 for a beginning that is none."""
-    kind = command["kind"]
-    fields = [command.get(f"f{place}", "") for place in range(1, len(FIELDS[kind]) + 1)]
+    kind, fields = command["kind"], fields_of(command)
     if kind in ("device", "life", "connect", "revise"):
         fields[-1] = fields[-1] or "-"
         fields[-2] = fields[-2] or "0"

@@ -24,7 +24,7 @@ from outage_tools.zone import Zone  # noqa: E402
 
 __all__ = ["BookError", "Command", "Counts", "Device", "Entry", "LONGEST_MOMENTARY", "Parser", "Past", "Period", "Rows"]
 __all__ += ["Zone", "command_of", "copy_of", "counts_of", "indices_of", "past_outages", "quotient_text", "read_later"]
-__all__ += ["read_rows", "report_words", "tool_words"]
+__all__ += ["read_rows", "tool_words"]
 
 DIMENSIONS = {1: "cause", 2: "feeder", 3: "day"}
 Moves = list[tuple[str, int, int]]
@@ -127,8 +127,3 @@ def counts_of(copy: Path) -> tuple[int, int]:
 def tool_words(tool: str) -> list[str]:
     """The words that run one of the tools."""
     return [sys.executable, str(TOOLS / f"{tool}.py")]
-
-
-def report_words(book: Path, output: Path, program: str) -> list[str]:
-    """The words that write the printed report of a book."""
-    return [*tool_words("report"), str(book), "-o", str(output), "--program", program]

@@ -10,7 +10,6 @@ from datetime import timedelta
 from itertools import islice
 
 from .answers import Outage
-from .commands import FIELDS
 from .journal import ELSEWHERE, IMPORT, Sending
 from .moments import DAYS_BACK, LAST, date_of, read_moment
 from .names import name_in
@@ -40,7 +39,7 @@ def bound_of(state: State, typed: str, is_end: bool) -> int:
         if not 0 <= found <= LAST:
             raise Refused(f"{typed} lies outside of what a book can hold")
         return found
-    return read_moment(zone, typed, may_come=is_end)[-1 if is_end else 0].second
+    return read_moment(zone, typed, may_come=is_end)[-1 if is_end else 0]
 
 
 def bounds_of(state: State, wanted: dict[str, str], since: int) -> tuple[int, int]:
@@ -85,11 +84,8 @@ def words_of(state: State, sending: Sending) -> str:
         return "a file of commands"
     if sending.kind == ELSEWHERE:
         return elsewhere_words(state, *(sending.commands or (0, 0)))
-    fields = list(sending.fields[: len(FIELDS.get(sending.kind, ()))])
-    while fields and not fields[-1]:
-        fields.pop()
-    words = command_words(state, sending.kind, fields)
-    device = device_of(state, fields[0]) if sending.kind in ("correct", "withdraw") and fields else ""
+    words = command_words(state, sending.kind, sending.fields)
+    device = device_of(state, sending.fields[0]) if sending.kind in ("correct", "withdraw") else ""
     return words + (f" ({device})" if device else "")
 
 

@@ -7,7 +7,7 @@ from collections.abc import Iterable, Sequence
 from typing import Any
 
 from .answers import Outage, Supply
-from .commands import FIELDS
+from .commands import FIELDS, members_of
 from .diagram import closed_devices, layout_of, normal_ways, supplied_nodes
 from .moments import double_hours
 from .reader import Command, Entry
@@ -207,8 +207,7 @@ def command_view(state: State, told: Sequence[str] | None) -> Json | None:
     if told is None:
         return None
     kind, *fields = told
-    named = {f"f{place}": field for place, field in enumerate(fields, 1)}
-    return {"command": {"kind": kind, **named}, "words": command_words(state, kind, fields)}
+    return {"command": members_of(kind, fields), "words": command_words(state, kind, fields)}
 
 
 def between_view(state: State, seen: int, number: int) -> list[Json]:

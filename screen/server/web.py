@@ -22,7 +22,7 @@ from aiohttp import web
 
 from . import forecasts, moments, outage, search, shift, views, year
 from .apart import Kept
-from .commands import FIELDS
+from .commands import FIELDS, fields_of
 from .desk import Away
 from .guard import BODY_BYTES
 from .names import NAME, folded, name_in
@@ -288,7 +288,7 @@ def second_within(office: Office, query: Query) -> int:
     if not typed:
         return office.state.now()
     found = moments.read_moment(period.zone, typed)
-    at = found[int(query.get("which") == "1") % len(found)].second
+    at = found[0]
     if not period.first <= at < period.end:
         raise Refused("the second lies outside the book's period")
     return at
@@ -300,6 +300,12 @@ def second(office: Office, query: Query) -> Json:
     at = second_within(office, query)
     goes = period.first <= read_at < period.end
     return {**views.moment(office.state, at), "goes": goes, "gone": max(0.0, read_at - at) if goes else 0.0}
+
+
+def moment(office: Office, query: Query) -> list[Json]:
+    """What a typed moment may mean: two seconds where the clock shows it twice."""
+    found = moments.read_moment(office.state.period.zone, query.get("text", ""))
+    return [views.moment(office.state, each) for each in found]
 
 
 async def now(office: Office, query: Query) -> Json:
@@ -324,9 +330,7 @@ async def forecast(office: Office, query: Query) -> Json:
     """What a command would do, or the steps of an outage."""
     if steps := query.get("steps"):
         return await outage.forecast(office, outage.steps_in(steps))
-    kind = query.get("kind", "")
-    fields = [query.get(f"f{place}", "") for place, _ in enumerate(FIELDS.get(kind, ()), 1)]
-    return await forecasts.forecast(office, kind, fields)
+    return await forecasts.forecast(office, query.get("kind", ""), fields_of(query))
 
 
 def entry_number(request: web.Request) -> int:
@@ -480,7 +484,7 @@ GETS: dict[str, Handler] = {
     "/api/sheet": shows(sheet),
     r"/api/entries/{no:\d{1,6}}": entry,
     r"/api/outages/{no:\d{1,6}}": outage_of,
-    "/api/moment": shows(lambda office, query: moments.moment_view(office.state.period.zone, query.get("text", ""))),
+    "/api/moment": shows(moment),
     "/api/position": shows(position),
     "/api/forecast": shows(forecast),
     "/api/customers": shows(lambda office, query: views.customers_view(office.state, query)),

@@ -7,7 +7,7 @@ import tempfile
 from pathlib import Path
 from typing import Any
 
-from .reader import BookError, copy_of, report_words, tool_words
+from .reader import BookError, copy_of, tool_words
 
 TOOL_SECONDS = 300
 
@@ -58,5 +58,5 @@ def commands_csv(program: str, book: Path) -> bytes:
 def report_page(program: str, book: Path) -> bytes:
     with tempfile.TemporaryDirectory(prefix="screen-") as folder:
         output = Path(folder) / "report.html"
-        run(report_words(book, output, program))
+        run([*tool_words("report"), str(book), "-o", str(output), "--program", program])
         return output.read_bytes()

@@ -23,7 +23,7 @@ WORDS = ("--headless=new", "--no-sandbox", "--disable-gpu", "--disable-dev-shm-u
 PROBES = Path(__file__).with_name("probes.js").read_text(encoding="utf-8")
 CLICKS = 5  # on an element that moves
 MOVED = (ElementClickInterceptedException, StaleElementReferenceException)
-WIDE, PHONE = (1280, 900), (390, 844)
+PHONE = (390, 844)
 A4 = 702  # pixels between its margins
 
 

@@ -49,14 +49,15 @@ class Shift(support.Case):
     def test_the_log_by_time_and_by_whom(self) -> None:
         opened = self.switch("LOG-1", "open")
         self.switch("LOG-2", "close")
-        refused = {"kind": "switch", "f1": "LBS-1", "f2": "open", "f3": "1", "f4": "1", "f5": "LOG-2"}
-        self.assertEqual(self.live.post({**refused, "ref": "SCR-LOG-2-A"})[0], 422)
+        refused = {"kind": "switch", "f1": "LBS-1", "f2": "open", "f3": "1", "f4": "1"}
+        for reference, crew in (("SCR-LOG-2-A", "LOG-2"), ("SCR-LOG-2-B", "")):
+            self.assertEqual(self.live.post({**refused, "f5": crew, "ref": reference})[0], 422)
         one, other = self.get("/api/log", name="log-1"), self.get("/api/log", name="log-2")
         self.assertEqual([row["login"] for row in one], ["LOG-1"])
-        self.assertEqual([row["outcome"] for row in other], ["refused", "saved"])
+        self.assertEqual([row["outcome"] for row in other], ["refused", "refused", "saved"])
         self.assertIn("LBS-1 open at ", one[0]["words"])
         self.assertEqual(one[0]["result"], f"saved: command {opened['reply']['no']}, entry {opened['entry']}")
-        self.assertTrue(other[0]["result"].startswith("refused: 5 "), other[0]["result"])
+        self.assertEqual([row["result"].split()[1] for row in other[:2]], ["1", "5"])
         self.assertRegex(one[0]["at"], r"\+0[12]:00$")
         later = one[0]["second"] + 1
         self.assertEqual(self.get("/api/log", since=str(later), name="log-1"), [])
@@ -278,8 +279,8 @@ class Typed(unittest.TestCase):
             " 1795872600 ": "2026-11-28 14:30:00",
             "2026-10-25 02:30 +01:00": "2026-10-25 02:30:00",
         }.items():
-            self.assertEqual([each.text[:19].replace("T", " ") for each in self.read(typed)], [words], typed)
-        self.assertEqual(self.read("1905", may_come=True)[0].text[:16], "2026-11-28T19:05")
+            self.assertEqual([each[:19].replace("T", " ") for each in self.texts(typed)], [words], typed)
+        self.assertEqual(self.texts("1905", may_come=True)[0][:16], "2026-11-28T19:05")
         for wrong, words in {
             "25:10": "25:10 is no date and time",
             "1960": "1960 is no date and time",
@@ -300,11 +301,14 @@ class Typed(unittest.TestCase):
         """02:30 comes twice; while the second one is to come, the first one is meant."""
         first, second = 1_792_888_200, 1_792_891_800
         for now, meant in ((first - 61, [first - 86_400]), (first, [first]), (second, [first, second])):
-            self.assertEqual([each.second for each in self.read("0230", now)], meant, now)
-        both = self.read("2026-10-25 02:30:00")
-        self.assertEqual([each.text for each in both], [f"2026-10-25T02:30:00+0{hours}:00" for hours in (2, 1)])
+            self.assertEqual(self.read("0230", now), meant, now)
+        both = self.texts("2026-10-25 02:30:00")
+        self.assertEqual(both, [f"2026-10-25T02:30:00+0{hours}:00" for hours in (2, 1)])
 
-    def read(self, typed: str, now: int = 1_795_872_600, may_come: bool = False) -> list[moments.Moment]:
+    def texts(self, typed: str, may_come: bool = False) -> list[str]:
+        return [ZONE.text_of(each) for each in self.read(typed, may_come=may_come)]
+
+    def read(self, typed: str, now: int = 1_795_872_600, may_come: bool = False) -> list[int]:
         with unittest.mock.patch("time.time", return_value=float(now)):
             return moments.read_moment(ZONE, typed, may_come)
 
