@@ -79,14 +79,9 @@ def supply_in(answer: Answer) -> Supply:
     if answer.status == 404:
         raise Refused("the second lies outside the book's period")
     told = answer.json()
-    outages = [outage_in(row) for row in told["sections"]]
+    outages = [Outage(**(row | {"entry": row["entry"] or 0})) for row in told["sections"]]
     closed = {row["device"]: row["position"] == "closed" for row in told["devices"]}
     return Supply(told["second"], outages, closed, {row["device"]: row["alive"] for row in told["devices"]})
-
-
-def outage_in(row: dict[str, Any]) -> Outage:
-    told: dict[str, Any] = {**row, "entry": row["entry"] or 0}
-    return Outage(**told)
 
 
 def plan_in(answer: Answer) -> Plan:

@@ -113,6 +113,12 @@ class OwnDesk:
         self.process: asyncio.subprocess.Process | None = None
         self.is_final = False
         self.first_start: asyncio.Future[str | None] = asyncio.get_running_loop().create_future()
+        self.keeping = asyncio.create_task(self.keep())
+
+    async def begun(self) -> None:
+        """Waits for the first start, and raises why it failed."""
+        if why := await self.first_start:
+            raise Away(why)
 
     async def keep(self) -> None:
         """Starts the desk, and again each time it has ended."""
@@ -155,6 +161,8 @@ class OwnDesk:
         """The desk takes requests from now on."""
 
     async def end(self) -> None:
+        self.keeping.cancel()
         if self.process is not None and self.process.returncode is None:
             self.process.terminate()
             await self.process.wait()
+        await asyncio.gather(self.keeping, return_exceptions=True)

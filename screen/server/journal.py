@@ -7,6 +7,7 @@ import os
 from collections.abc import Iterator, Sequence
 from dataclasses import dataclass
 from datetime import datetime, timezone
+from functools import partial
 from pathlib import Path
 from typing import Any
 
@@ -91,12 +92,8 @@ class Journal:
         self._keep(row)
         if self.path is None:
             return
-        data = (json.dumps(row) + "\n").encode()
-        place = os.open(self.path, os.O_WRONLY | os.O_APPEND | os.O_CREAT, 0o600)
-        try:
-            os.write(place, data)
-        finally:
-            os.close(place)
+        with open(self.path, "ab", buffering=0, opener=partial(os.open, mode=0o600)) as file:
+            file.write((json.dumps(row) + "\n").encode())
 
     def between(self, since: int, until: int, part: str = "") -> Iterator[Sending]:
         """What was sent from one second up to another, latest first, by whoever has a text in the name."""

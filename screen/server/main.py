@@ -8,7 +8,10 @@ import logging
 import resource
 import signal
 import sys
+from collections.abc import AsyncIterator, Coroutine
+from contextlib import AsyncExitStack, asynccontextmanager
 from pathlib import Path
+from typing import Any
 
 from aiohttp import web
 
@@ -80,28 +83,23 @@ async def wait_for(desk: Desk) -> None:
             await asyncio.sleep(BETWEEN_TRIES)
 
 
-async def start_desk(given: argparse.Namespace, tasks: list[asyncio.Task[None]]) -> tuple[Desk | None, OwnDesk | None]:
+async def start_desk(given: argparse.Namespace, at_end: AsyncExitStack) -> Desk | None:
     """The desk that is asked for, at work."""
     if given.no_desk:
-        return None, None
+        return None
     if given.desk:
         desk = Desk(given.desk.rstrip("/"))
         await wait_for(desk)
-        return desk, None
-    desk = Desk(None)
-    own = OwnDesk(desk, given.program, given.book.resolve())
-    tasks.append(asyncio.create_task(own.keep()))
-    why = await own.first_start
-    if why:
-        raise BookError(why)
-    return desk, own
+        return desk
+    own = OwnDesk(Desk(None), given.program, given.book.resolve())
+    at_end.push_async_callback(own.end)
+    await own.begun()
+    return own.desk
 
 
 async def known_state(copy: DeskCopy, book: Path) -> State:
     """The rows of a book that is looked at without its desk; the copy has what they have."""
-    why = await copy.first_start
-    if why:
-        raise BookError(why)
+    await copy.begun()
     state = new_state(book)
     for command, moves in read_later(book, copy.known):
         if command.number <= state.number:
@@ -109,33 +107,35 @@ async def known_state(copy: DeskCopy, book: Path) -> State:
     return state
 
 
-async def serve(given: argparse.Namespace) -> None:
-    ended = asyncio.Event()
-    for each in (signal.SIGTERM, signal.SIGINT):
-        asyncio.get_running_loop().add_signal_handler(each, ended.set)
-    tasks: list[asyncio.Task[None]] = []
-    desk, own = await start_desk(given, tasks)
-    book = given.book.resolve()
-    copy = DeskCopy(given.program, book)
-    tasks.append(asyncio.create_task(copy.keep()))
+@asynccontextmanager
+async def meanwhile(*works: Coroutine[Any, Any, object]) -> AsyncIterator[None]:
+    """Does some works beside what is done here; then they are broken off."""
+    tasks = [asyncio.create_task(each) for each in works]
     try:
-        log = given.log or given.book.with_name(f"{given.book.name}-screen.jsonl")
-        state = await known_state(copy, book) if given.no_desk else new_state(book)
-        office = Office(book, state, desk, copy, Journal(None if given.no_desk else log))
-        tasks.append(asyncio.create_task(office.look_back()))
-        if desk is not None:
-            if (await desk.ask("GET", f"/supply/{state.now()}")).status == 404:
-                raise BookError("the desk's program is older than this screen")
-            office.note_start()
-            tasks.append(asyncio.create_task(office.watch()))
-        await listen(given, office, ended)
+        yield
     finally:
         for task in tasks:
             task.cancel()
         await asyncio.gather(*tasks, return_exceptions=True)
-        for each_desk in (own, copy):
-            if each_desk is not None:
-                await each_desk.end()
+
+
+async def serve(given: argparse.Namespace) -> None:
+    ended, book = asyncio.Event(), given.book.resolve()
+    for each in (signal.SIGTERM, signal.SIGINT):
+        asyncio.get_running_loop().add_signal_handler(each, ended.set)
+    async with AsyncExitStack() as at_end:
+        desk = await start_desk(given, at_end)
+        copy = DeskCopy(given.program, book)
+        at_end.push_async_callback(copy.end)
+        log = given.log or given.book.with_name(f"{given.book.name}-screen.jsonl")
+        state = await known_state(copy, book) if desk is None else new_state(book)
+        office = Office(book, state, desk, copy, Journal(log if desk else None))
+        if desk is not None:
+            if (await desk.ask("GET", f"/supply/{state.now()}")).status == 404:
+                raise BookError("the desk's program is older than this screen")
+            office.note_start()
+        async with meanwhile(office.past(), *([office.watch()] if desk else [])):
+            await listen(given, office, ended)
 
 
 async def listen(given: argparse.Namespace, office: Office, ended: asyncio.Event) -> None:
@@ -171,7 +171,7 @@ def main() -> int:
     logging.basicConfig(level=logging.ERROR)
     try:
         asyncio.run(serve(given))
-    except BookError as error:
+    except (BookError, Away) as error:
         print(f"error: {error}", file=sys.stderr)
         return 1
     return 0

@@ -60,8 +60,8 @@ class Hub:
 
 class Office:
     def __init__(self, book: Path, state: State, desk: Desk | None, copy: DeskCopy, journal: Journal):
-        self.book, self.state, self.desk, self.journal = book, state, desk, journal
-        self.copy = copy
+        self.book, self.state, self.copy, self.journal = book, state, copy, journal
+        self.desk, self.has_desk = desk or Desk(None), desk is not None
         self.state.sent = journal.sent
         self.hub = Hub()
         self.in_step = asyncio.Lock()
@@ -73,21 +73,20 @@ class Office:
         self.past_known: Past = {}  # as of the command `past_of`
         self.is_importing = False
         self.differs: str | None = None
-        self.told_away: str | None = None
+        self.told_away = False
 
     # What is known of the desk.
 
     def desk_view(self) -> dict[str, Any]:
-        away = self.desk.why_away if self.desk else None
-        state = "none" if self.desk is None else "away" if away else "here"
+        away = self.desk.why_away if self.has_desk else None
+        state = "none" if not self.has_desk else "away" if away else "here"
         return {"desk": state, "why": away, "differs": self.differs, "number": self.state.number}
 
     def tell_desk(self) -> None:
         """Tells all pages where the desk has gone away or come back."""
-        away = self.desk.why_away if self.desk else None
-        if bool(away) != bool(self.told_away):
+        if (is_away := bool(self.desk.why_away)) != self.told_away:
             self.hub.tell({"what": "desk", **self.desk_view()})
-        self.told_away = away
+        self.told_away = is_away
 
     async def watch(self) -> None:
         """Looks once a second whether a command came another way, or the desk went or came."""
@@ -103,7 +102,6 @@ class Office:
             await asyncio.sleep(WATCH_SECONDS)
 
     async def look(self) -> None:
-        assert self.desk is not None
         answer = await self.desk.ask("GET", f"/commands/{self.state.number + 1}")
         if answer.status == 200:
             async with self.in_step:
@@ -172,15 +170,12 @@ class Office:
     ) -> tuple[int, dict[str, Any]]:
         """Sends a command until the desk has answered it: the status and what the page is told. `seen` is the last command
         that the page knew of when it showed what this one would do; `told` goes into the log."""
-        assert self.desk is not None
         known = self.state.number
         self.journal.write(login, command["ref"], sent=command, **told)
         try:
             answer, tries = await self.desk.send(command)
         except Away as away:
-            self.journal.write(login, command["ref"], unanswered=str(away))
-            self.tell_desk()
-            return 503, {"error": "away", "words": AWAY_WORDS, "ref": command["ref"], "why": str(away)}
+            return self.unanswered(login, command["ref"], away)
         self.journal.write(login, command["ref"], status=answer.status, answer=body_of(answer))
         reply = answer.json()
         if answer.status != 200:
@@ -193,12 +188,15 @@ class Office:
         shown["undo"] = views.command_view(self.state, self.undos.get(number))
         return 200, shown
 
+    def unanswered(self, login: str, reference: str, away: Away) -> tuple[int, dict[str, Any]]:
+        self.journal.write(login, reference, unanswered=str(away))
+        self.tell_desk()
+        return 503, {"error": "away", "words": AWAY_WORDS, "why": str(away)}
+
     async def refused(self, command: dict[str, str], reply: dict[str, Any], answer: Answer) -> dict[str, Any]:
         """A refusal in words. It often means that another command came first: so the state is brought up to it."""
-        try:
+        with suppress(Away):
             await self.look()
-        except Away:
-            pass
         shown: dict[str, Any] = {"error": "refused", "reply": reply, "text": answer.body.decode()}
         kind, fields = command["kind"], fields_of(command)
         shown["words"] = refusals.words_of(self.state, kind, fields, reply)
@@ -208,7 +206,6 @@ class Office:
 
     async def import_rows(self, login: str, rows: bytes) -> tuple[int, dict[str, Any]]:
         """Hands a CSV text to the desk: its report."""
-        assert self.desk is not None
         self.journal.write(login, "", sent={"kind": "import", "bytes": len(rows)})
         known, self.is_importing = self.state.number, True
         try:
@@ -216,8 +213,7 @@ class Office:
             async with self.in_step:
                 await self.catch_up()
         except Away as away:
-            self.journal.write(login, "", unanswered=str(away))
-            return 503, {"error": "away", "words": AWAY_WORDS, "why": str(away)}
+            return self.unanswered(login, "", away)
         finally:
             self.is_importing = False
         commands = [known + 1, self.state.number] if self.state.number > known else None
@@ -229,13 +225,13 @@ class Office:
     async def supply(self, second: int) -> Supply:
         """The supply at a second of the period."""
         found = await self.supply_now(second)
-        if self.desk is not None and not self.knows(found):
+        if self.has_desk and not self.knows(found):
             await self.look()
         return found
 
     async def supply_now(self, second: int) -> Supply:
         try:
-            return supply_in(await self.ask_now(f"/supply/{second}"))
+            return supply_in(await self.desk.look(f"/supply/{second}"))
         except Away:
             return await self.copy.supply(second)
 
@@ -248,37 +244,25 @@ class Office:
     async def plan(self, kind: str, fields: Sequence[str]) -> Plan:
         """What a command would do."""
         try:
-            return plan_in(await self.ask_now("/plan", command_body(kind, fields)))
+            return plan_in(await self.desk.look("/plan", command_body(kind, fields)))
         except Away:
             return await self.copy.plan(kind, fields)
 
     async def view(self, route: str) -> Any:
         """One of the desk's views, as JSON."""
         try:
-            return (await self.ask_now(route)).json()
+            return (await self.desk.look(route)).json()
         except Away:
             return (await self.copy.ask(route)).json()
 
-    async def ask_now(self, route: str, body: bytes | None = None) -> Answer:
-        if self.desk is None:
-            raise Away("there is no desk")
-        return await self.desk.look(route, body)
-
-    async def moves_of(self, number: int) -> str | None:
-        """The reply that a command had, word for word; None where there is none."""
-        if self.desk is not None:
-            answer = await self.desk.ask("GET", f"/commands/{number}")
-        else:
-            answer = await self.copy.ask(f"/commands/{number}")
+    async def words_of(self, route: str) -> str | None:
+        """What the desk says, word for word, or its copy where there is no desk; None where there is no such thing."""
+        answer = await (self.desk.ask("GET", route) if self.has_desk else self.copy.ask(route))
         return answer.body.decode() if answer.status == 200 else None
-
-    async def look_back(self) -> None:
-        """Finds past outages before somebody asks for them: in a long book that takes some seconds."""
-        await self.past()
 
     async def past(self) -> Past:
         """All outages: those of the rows once, by the tools, and from then on as the copy of the desk says that commands change
-        them."""
+        them. In a long book the first time takes some seconds."""
         async with self.past_order:
             state, followed = self.state, None
             if self.past_of == state.number:

@@ -10,7 +10,7 @@ import json
 import re
 import secrets
 import time
-from collections.abc import Awaitable, Callable
+from collections.abc import Awaitable, Callable, Coroutine
 from dataclasses import dataclass, field
 from functools import partial
 from inspect import isawaitable
@@ -105,7 +105,7 @@ def login_of(request: web.Request) -> str | None:
 
 def may_send(request: web.Request, login: str) -> bool:
     settings, office = settings_of(request), office_of(request)
-    return not settings.read_only and office.desk is not None and bool(login) and login.startswith(settings.senders)
+    return not settings.read_only and office.has_desk and bool(login) and login.startswith(settings.senders)
 
 
 def name_of(request: web.Request, login: str) -> str:
@@ -252,7 +252,7 @@ async def me(request: web.Request) -> web.StreamResponse:
             "name": name_of(request, login),
             "asks_name": settings.proxy is None,
             "may_send": may_send(request, login),
-            "could_send": not settings.read_only and office.desk is not None,
+            "could_send": not settings.read_only and office.has_desk,
             "book": settings.name,
             "training": settings.training,
             "token": token_of(settings, login),
@@ -354,7 +354,7 @@ async def entry(request: web.Request) -> web.StreamResponse:
     for command in office.state.histories[number]:
         text = None
         try:
-            text = None if is_away else await office.moves_of(command.number)
+            text = None if is_away else await office.words_of(f"/commands/{command.number}")
         except Away:
             is_away = True  # the entry is shown all the same, and the desk isn't waited for again
         remark = office.journal.remark_of(command.ref)
@@ -389,21 +389,14 @@ async def rows(request: web.Request) -> web.StreamResponse:
 # The year.
 
 
-async def whole(request: web.Request, name: str, make: Callable[[], Awaitable[Any]]) -> Any:
+async def whole(request: web.Request, name: str, make: Callable[[], Coroutine[Any, Any, Any]]) -> Any:
     """Something that is made of the whole book: one at a time, and kept until the book has another command."""
     office = office_of(request)
-    kept = office.kept.setdefault(name, Kept(lambda: office.state.number, make))
-    return await kept.get()
+    return await office.kept.setdefault(name, Kept(lambda: office.state.number, make)).get()
 
 
 async def table_text(request: web.Request) -> str:
-    office = office_of(request)
-
-    async def make() -> str:
-        answered = office.copy.ask("/table") if office.desk is None else office.desk.ask("GET", "/table")
-        return (await answered).body.decode()
-
-    return str(await whole(request, "table", make))
+    return str(await whole(request, "table", partial(office_of(request).words_of, "/table")))
 
 
 async def table(request: web.Request) -> web.StreamResponse:

@@ -24,9 +24,7 @@ class Case(unittest.IsolatedAsyncioTestCase):
         self.desk = support.Desk(book)
         self.addCleanup(self.desk.kill)
         self.copy = DeskCopy(str(support.PROGRAM), book)
-        keeping = asyncio.create_task(self.copy.keep())
         self.addAsyncCleanup(self.copy.end)
-        self.addCleanup(keeping.cancel)
         self.office = Office(book, new_state(book), Desk(self.desk.url), self.copy, Journal(None))
         self.state = self.office.state
 
