@@ -12,9 +12,7 @@ from .desk import Answer, Away
 from .reader import Moves
 from .state import Refused
 
-Interval = tuple[
-    int, int, int
-]  # seconds without supply, from one up to another, and the entry that cut off (0: none did)
+Interval = tuple[int, int, int]  # seconds without supply, from one up to another; the entry that cut off (0: none did)
 
 
 @dataclass(frozen=True)

@@ -76,9 +76,7 @@ class DeskCopy(OwnDesk):
         self.later: deque[tuple[Command, Moves]] = deque(maxlen=MOST_LATER)
         self.entries: list[int] = []  # the copy's number of each of the book's entries
         self.numbers: dict[int, int] = {}  # the book's number of each of these
-        self.changes: deque[tuple[int, list[SectionChange]]] = deque(
-            maxlen=MOST_LATER
-        )  # by the commands that it followed
+        self.changes: deque[tuple[int, list[SectionChange]]] = deque(maxlen=MOST_LATER)  # by the commands it followed
         self.made = 0  # entries that the copy has
         self.revisions: Counter[int] = Counter()  # by how many the copy's revision of an entry is later
 

@@ -13,7 +13,7 @@ from typing import Any
 from . import refusals, undo, views
 from .answers import Plan, Supply, command_body, moves_in, plan_in, supply_in
 from .apart import Apart, Kept
-from .commands import fields_of
+from .commands import FIELDS, fields_of
 from .desk import IMPORT_SECONDS, Answer, Away, Desk
 from .journal import Journal
 from .reader import Command, Moves, Past, past_outages, read_later, read_rows
@@ -29,6 +29,7 @@ AWAY_WORDS = (
     "and acts once."
 )
 PLAIN = re.compile(r"0|[1-9][0-9]*|-")
+NUMBERS = ("entry", "revision", "customer", "cause", "second", "since", "until", "beginning", "end")  # fields that are
 
 
 class Hub:
@@ -289,10 +290,8 @@ def body_of(answer: Answer) -> Any:
 
 def is_canonical(command: Command) -> bool:
     """The fields are spelled as the book keeps them: else the command is read from the file, as one of another client."""
-    places = {"switch": (2, 3), "correct": (0, 1, 3, 4), "withdraw": (0, 1), "revise": (0, 1, 2), "connect": (0, 2, 3)}
-    numbers = [command.fields[place] for place in places.get(command.kind, ())]
-    numbers += command.fields[-2:] if command.kind in ("device", "life") else []
-    return all(PLAIN.fullmatch(text) for text in numbers)
+    names = FIELDS[command.kind]
+    return all(PLAIN.fullmatch(text) for name, text in zip(names, command.fields) if name in NUMBERS)
 
 
 def accepted(number: int, command: dict[str, str]) -> Command:

@@ -9,7 +9,7 @@ from .moments import DAYS_BACK, day_of_word
 from .names import NAME
 from .reader import Entry, Past
 from .state import Refused, State
-from .views import Json, day_name, entry_view, text
+from .views import Json, day_name, entry_view, statuses_of, text
 
 PAGE_ROWS = 100
 STATUSES = ("late", "corrected", "withdrawn")
@@ -39,7 +39,6 @@ def sheet_view(state: State, wanted: dict[str, str], past: Past) -> Json:
         "number": state.number,
         "found": len(found),
         "of": len(state.entries),
-        "from": begin,
         "day": day_of(state, wanted["day"]) if wanted.get("day") else "",
         "rows": [entry_view(state, entry, late) for entry in shown],
     }
@@ -119,14 +118,4 @@ def of_sections(state: State, nodes: set[int], past: Past, words: str) -> Test:
 def of_status(state: State, typed: str, late: set[int]) -> Test:
     if typed not in STATUSES:
         raise Refused(f"entries are {', '.join(STATUSES)}, and not {typed}")
-    return lambda entry: typed in statuses_of(state, entry, late)
-
-
-def statuses_of(state: State, entry: Entry, late: set[int]) -> list[str]:
-    """What the log marks of an entry."""
-    found = ["withdrawn"] if not entry.is_kept else []
-    if entry.number in late:
-        found.append("late")
-    if any(command.kind == "correct" for command in state.histories.get(entry.number, [])):
-        found.append("corrected")
-    return found
+    return lambda entry: bool(statuses_of(state, entry, late)[typed])

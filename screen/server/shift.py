@@ -163,8 +163,7 @@ def is_open(office: Office, sending: Sending) -> bool:
 def entered_view(state: State, found: dict[int, list[Json]]) -> list[Json]:
     """Entries as they are now, each with what was done to it."""
     late = state.late_entries()
-    shown = [(entry_view(state, state.entries[entry - 1], late), done) for entry, done in found.items()]
-    return [{**row, "withdrawn": not row["kept"], "done": done} for row, done in shown]
+    return [{**entry_view(state, state.entries[entry - 1], late), "done": done} for entry, done in found.items()]
 
 
 def entered_by(state: State, sendings: Iterable[Sending]) -> dict[int, list[Json]]:

@@ -9,6 +9,7 @@ from collections import Counter, defaultdict, deque
 from collections.abc import Iterator
 from dataclasses import replace
 from datetime import date
+from typing import Self
 
 from .reader import Command, Device, Entry, Rows
 
@@ -78,7 +79,7 @@ class State:
         self.note(command)
         self.number = command.number
 
-    def after(self, kind: str, *fields: str) -> State:
+    def after(self, kind: str, *fields: str) -> Self:
         """The rows with a command about an entry; those that are kept in step with the book stay as they are."""
         found = copy.copy(self)
         found.entries = list(self.entries)

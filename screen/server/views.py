@@ -3,7 +3,7 @@
 from __future__ import annotations
 
 import re
-from collections.abc import Iterable, Sequence
+from collections.abc import Container, Iterable, Sequence
 from typing import Any
 
 from .answers import Outage, Supply
@@ -44,7 +44,6 @@ def book_view(state: State) -> Json:
         "nodes": [{"name": name, "kind": kind, "feeder": feeder} for name, kind, feeder in state.nodes],
         "devices": [device_view(state, number) for number in range(len(state.devices))],
         "crews": sorted(state.crews),
-        "marks": {day_name(state, day): engineer for day, engineer in sorted(state.marks.items())},
     }
 
 
@@ -167,7 +166,13 @@ def diagram_view(state: State, supply: Supply) -> Json:
 # The switching sheet.
 
 
-def entry_view(state: State, entry: Entry, late: set[int] | None = None) -> Json:
+def statuses_of(state: State, entry: Entry, late: Container[int]) -> Json:
+    """What the log marks of an entry."""
+    is_corrected = any(command.kind == "correct" for command in state.histories.get(entry.number, []))
+    return {"late": entry.number in late, "corrected": is_corrected, "withdrawn": not entry.is_kept}
+
+
+def entry_view(state: State, entry: Entry, late: Container[int] | None = None) -> Json:
     history = state.histories.get(entry.number, [])
     return {
         "no": entry.number,
@@ -179,8 +184,7 @@ def entry_view(state: State, entry: Entry, late: set[int] | None = None) -> Json
         "cause_name": state.causes.get(entry.cause, ""),
         "crew": entry.crew,
         "kept": entry.is_kept,
-        "late": entry.number in (state.late_entries() if late is None else late),
-        "corrected": any(command.kind == "correct" for command in history),
+        **statuses_of(state, entry, state.late_entries() if late is None else late),
         "commands": [{"no": command.number, "ref": command.ref, "kind": command.kind} for command in history],
     }
 
@@ -214,7 +218,6 @@ def between_view(state: State, seen: int, number: int) -> list[Json]:
     """The commands that came after one that a page had seen and before another one."""
     return [
         {
-            "no": command.number,
             "ref": command.ref,
             "words": command_words(state, command.kind, command.fields),
             "entry": state.changed.get(command.number),

@@ -30,7 +30,7 @@ def table_view(table: str) -> dict[str, Any]:
         else:
             name, which, *value = words
             shown["indices"].setdefault(name, {})[which] = value
-    return {**shown, "text": table}
+    return shown
 
 
 def run(words: list[str]) -> bytes:
