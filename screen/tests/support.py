@@ -9,6 +9,7 @@ import os
 import shutil
 import signal
 import socket
+import ssl
 import subprocess
 import sys
 import tempfile
@@ -179,11 +180,13 @@ class Desk:
         return status, json.loads(body)
 
 
-def call(url: str, body: bytes | None = None, headers: dict[str, str] | None = None) -> tuple[int, bytes]:
+def call(
+    url: str, body: bytes | None = None, headers: dict[str, str] | None = None, tls: ssl.SSLContext | None = None
+) -> tuple[int, bytes]:
     """The status and the body of a request."""
     request = urllib.request.Request(url, data=body, headers={"Connection": "close", **(headers or {})})
     try:
-        with urllib.request.urlopen(request, timeout=60) as reply:
+        with urllib.request.urlopen(request, timeout=60, context=tls) as reply:
             return reply.status, reply.read()
     except urllib.error.HTTPError as error:
         with error:
@@ -281,48 +284,6 @@ class Screen(Client):
         )
 
 
-class Case(unittest.TestCase):
-    """A test whose desks, screens and proxies end with it; where no book is named they are over the sample's."""
-
-    live: Screen
-
-    @classmethod
-    def share(cls, book: Path, *words: str, desk: Desk | None = None) -> None:
-        """Starts a screen for all tests of a class, at which BERT sends commands."""
-        cls.live = Screen(book, *words, desk=desk)
-        cls.addClassCleanup(cls.live.end)
-        cls.live.log_in("BERT")
-
-    def desk(self, book: Path | None = None, port: int = 0) -> Desk:
-        found = Desk(book or fortnight(f"{self.id()}-{time.time_ns()}"), port)
-        self.addCleanup(found.kill)
-        return found
-
-    def screen(
-        self, *words: str, desk: Desk | None = None, book: Path | None = None, login: str = "", **how: Path
-    ) -> Screen:
-        book = book or (desk.book if desk else fortnight(f"{self.id()}-{time.time_ns()}"))
-        found = Screen(book, *words, desk=desk, **how)
-        self.addCleanup(found.end)
-        if login:
-            found.log_in(login)
-        return found
-
-    def between(self, *words: str) -> tuple[Desk, Between, Screen]:
-        """A desk, a proxy before it, and a screen that comes to it by that."""
-        desk = self.desk()
-        proxy = Between(desk.port)
-        self.addCleanup(proxy.end)
-        return desk, proxy, self.screen("--desk", proxy.url, *words, book=desk.book)
-
-    def stop(self, process: int) -> Callable[[], None]:
-        """Stops a process, which goes on when the answer is called, at the test's end at the latest."""
-        os.kill(process, signal.SIGSTOP)
-        go_on = partial(os.kill, process, signal.SIGCONT)
-        self.addCleanup(go_on)
-        return go_on
-
-
 class Between:
     """A proxy before a port. It hands bytes on, counts POSTs and notes routes. It cuts the replies to some POSTs off; while it
     has a status, it answers each request with that and a page of its own, as nginx does while the screen is away."""
@@ -401,3 +362,45 @@ def pump(source: socket.socket, to: socket.socket, is_dead: Callable[..., bool])
         to.shutdown(socket.SHUT_RDWR)
     except OSError:
         pass
+
+
+class Case(unittest.TestCase):
+    """A test whose desks, screens and proxies end with it; where no book is named they are over the sample's."""
+
+    live: Screen
+
+    @classmethod
+    def share(cls, book: Path, *words: str, desk: Desk | None = None) -> None:
+        """Starts a screen for all tests of a class, at which BERT sends commands."""
+        cls.live = Screen(book, *words, desk=desk)
+        cls.addClassCleanup(cls.live.end)
+        cls.live.log_in("BERT")
+
+    def desk(self, book: Path | None = None, port: int = 0) -> Desk:
+        found = Desk(book or fortnight(f"{self.id()}-{time.time_ns()}"), port)
+        self.addCleanup(found.kill)
+        return found
+
+    def screen(
+        self, *words: str, desk: Desk | None = None, book: Path | None = None, login: str = "", **how: Path
+    ) -> Screen:
+        book = book or (desk.book if desk else fortnight(f"{self.id()}-{time.time_ns()}"))
+        found = Screen(book, *words, desk=desk, **how)
+        self.addCleanup(found.end)
+        if login:
+            found.log_in(login)
+        return found
+
+    def between(self, *words: str) -> tuple[Desk, Between, Screen]:
+        """A desk, a proxy before it, and a screen that comes to it by that."""
+        desk = self.desk()
+        proxy = Between(desk.port)
+        self.addCleanup(proxy.end)
+        return desk, proxy, self.screen("--desk", proxy.url, *words, book=desk.book)
+
+    def stop(self, process: int) -> Callable[[], None]:
+        """Stops a process, which goes on when the answer is called, at the test's end at the latest."""
+        os.kill(process, signal.SIGSTOP)
+        go_on = partial(os.kill, process, signal.SIGCONT)
+        self.addCleanup(go_on)
+        return go_on
