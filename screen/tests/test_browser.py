@@ -3,7 +3,6 @@
 import json
 import os
 import random
-import signal
 import threading
 import time
 import unittest
@@ -113,29 +112,6 @@ class Operators(Case):
         self.one.unfold(".outcome")
         self.assertIn('"no":103', self.one.text(".reply"))
         self.assertEqual(self.one.complaints() + self.other.complaints(), [])
-
-    def test_two_operators_on_one_device(self) -> None:
-        """Both see what the closing gives back, and send at once: the book has it once, and each is told what their own did."""
-        screen = self.screen()
-        pages = {"ANNA": self.one, "BERT": self.other}
-        for name, page in pages.items():
-            page.open(screen.url + LATE, name)
-            page.says(".forecast", "Customer-minutes lost: \u221224")
-            page.can_send()
-        for page in pages.values():
-            page.script("setTimeout(() => document.querySelector('.send').click())")
-        for page in pages.values():
-            page.wait(lambda: page.all(".outcome .equal, .outcome .otherwise, .outcome .note"), "what became of it")
-        acted = [
-            json.loads(screen.call(f"/api/entries/{row['no']}")[1]["history"][0]["text"])["moved"]
-            for row in screen.entries()
-            if row["device"] == "LBS-22" and row["no"] > 35
-        ]
-        closed = [["cause", 5, -1440], ["feeder", 2, -1440], ["day", 13, -1440]]
-        self.assertEqual([moved for moved in acted if moved], [closed])
-        for page in pages.values():
-            said = page.text(".outcome")
-            self.assertTrue(any(each in said for each in ("As forecast", "it changed them by 0", "Not sent")), said)
 
     def test_a_form_that_changed_since_its_forecast_is_not_sent(self) -> None:
         screen = self.screen()
@@ -597,6 +573,9 @@ class Live(Case):
         self.assertLessEqual(last[:10], time.strftime("%Y-%m-%d", time.gmtime(time.time() + 7_200)))
         self.switch("close")
         page.says(".open-outages", "No outage is open.")
+        page.fill("Day", self.live.call("/api/book")[1]["today"])
+        page.says(".forecast .unmarked", "SAIDI without major event days: up to now")
+        self.assertNotIn("lost", page.text(".forecast"))
         page.open(f"{self.url}/enter?device=LBS-1")
         page.fill("Cause", "1")
         page.says(".forecast .open-end", "Counted to the period's end")
@@ -609,13 +588,6 @@ class Live(Case):
         page.says("form", "LBS-1 is open then")
         page.says(".forecast", "No section loses or gets back supply")
         page.says(".forecast .reason", "Still cut off: above it CB-1 is open since 20")
-
-    def test_a_mark_says_what_it_moves(self) -> None:
-        page = self.one
-        page.open(f"{self.url}/year")
-        page.fill("Day", self.live.call("/api/book")[1]["today"])
-        page.says(".forecast .unmarked", "SAIDI without major event days: up to now")
-        self.assertNotIn("lost", page.text(".forecast"))
 
 
 OLD_WORDS = [
@@ -759,25 +731,6 @@ class Breaks(Case):
         self.one.says(".outcome .equal", "As forecast")
         self.assertEqual(desk.get("/commands/103")["no"], 103)
         self.assertEqual(support.call(f"{desk.url}/commands/104")[0], 404)
-
-    def test_the_desk_is_killed_while_a_command_waits(self) -> None:
-        screen = self.screen()
-        page = self.one
-        page.open(screen.url + LATE)
-        page.can_send()
-        os.kill(screen.desk_process(), signal.SIGKILL)
-        page.click(".send")
-
-        def is_saved() -> bool:
-            """As an operator does: where the next desk took more than 25 seconds to begin, it is sent again."""
-            if page.all(".outcome .again"):
-                page.click(".outcome .again")
-            return "(command 103)" in page.text(".outcome")
-
-        page.wait(is_saved, "the reply")
-        page.says(".outcome .equal", "As forecast")
-        page.says(".state", "Connected")
-        self.assertEqual(screen.number(), 103)
 
     def test_the_screen_is_killed_while_a_command_is_in_work(self) -> None:
         desk = self.desk()

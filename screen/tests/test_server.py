@@ -87,13 +87,6 @@ class Commands(support.Case):
         self.assertEqual((withdrawn, screen.number()), (200, 104))
         self.assertIsNone(screen.call("/health")[1]["differs"])
 
-    def test_the_second_that_is_now(self) -> None:
-        """A book whose period is over is looked at, and told, at its last second."""
-        screen = self.screen()
-        last = {"second": 1_743_976_799, "text": "2025-04-06T23:59:59+02:00"}
-        self.assertEqual(screen.call("/api/second")[1], {**last, "goes": False, "gone": 0.0})
-        self.assertEqual(screen.call("/api/now")[1]["at"], last)
-
     def test_the_log_has_login_reference_and_answer(self) -> None:
         screen = self.screen(login="ANNA")
         screen.post({**LIGHTHOUSE, "ref": "SCR-ANNA-1"})
@@ -102,14 +95,10 @@ class Commands(support.Case):
         self.assertEqual({line["login"] for line in lines}, {"ANNA"})
         self.assertEqual(lines[0]["sent"]["f1"], "LBS-22")
         self.assertEqual((lines[1]["status"], lines[1]["answer"]["no"]), (200, 103))
-        shown = screen.call("/api/log")[1]
-        self.assertEqual([(row["reference"], row["login"]) for row in shown], [("SCR-ANNA-1", "ANNA")])
-        self.assertEqual(shown[0]["result"], "saved: command 103, entry 36")
 
     def test_the_whole_year_and_its_texts(self) -> None:
         screen = self.screen()
         table = (support.FORTNIGHT_FILES / "fortnight.table.txt").read_text()
-        self.assertEqual(screen.call("/api/year")[1]["text"], table)
         self.assertEqual(support.call(f"{screen.url}/download/table.txt")[1].decode(), table)
         moves = support.call(f"{screen.url}/download/moves.csv")[1]
         self.assertEqual(moves, (support.FORTNIGHT_FILES / "fortnight.moves.csv").read_bytes())
@@ -153,6 +142,9 @@ class Figures(support.Case):
             ("section=0303", "no section has 0303 in its name"),
             ("device=NOSUCH", "no device has NOSUCH in its name"),
             ("cause=99", "no cause 99"),
+            ("feeder=2", "home feeder 2"),
+            ("feeder=x", "home feeder x"),
+            ("crew=%C3%84", "crew Ä can't be read"),
             ("marked=odd", "odd"),
             ("order=odd", "odd"),
         ):

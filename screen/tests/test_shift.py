@@ -89,15 +89,6 @@ class Shift(support.Case):
         self.assertEqual([row["no"] for row in self.get("/api/changes", since=since, name="NEW-2")["entered"]], [mine])
         self.assertEqual(self.get("/api/changes", since="2001-01-01", until="2001-01-02")["entered"], [])
 
-    def test_open_outages_are_those_of_one_switching(self) -> None:
-        entry = self.switch("OUT-1", "open", "CB-1")["entry"]
-        found = [row for row in self.get("/api/changes")["open"] if row["entry"] == entry]
-        self.switch("OUT-1", "close", "CB-1", 0)
-        self.assertEqual(len(found), 1)
-        self.assertIn("QUAY", found[0]["sections"])
-        self.assertEqual(found[0]["device"], "CB-1")
-        self.assertEqual(found[0]["customers"], {1: 1, 2: 3}[len(found[0]["sections"])])
-
     def test_marked_days_and_who_marked_them(self) -> None:
         first, second = self.live.call("/api/book")[1]["days"][:2]
         self.send("MARK-1", kind="mark", f1=first, f2="MARK-1")
@@ -142,14 +133,6 @@ class Shift(support.Case):
         self.assertEqual((found["rows"][0]["no"], found["day"]), (entry, today.isoformat()))
         self.assertEqual(self.get("/api/sheet", day="yesterday", crew="day-1")["found"], 0)
         self.assertEqual(self.get("/api/sheet", day="yesterday")["day"], (today - timedelta(days=1)).isoformat())
-        for query, words in (
-            ("feeder=2", "home feeder 2"),
-            ("feeder=x", "home feeder x"),
-            ("crew=%C3%84", "crew Ä can't be read"),
-        ):
-            status, shown = self.live.call(f"/api/sheet?{query}")
-            self.assertEqual(status, 422, query)
-            self.assertIn(words, shown["words"])
 
 
 class Pages(support.Case):
@@ -245,12 +228,15 @@ class Stops(support.Case):
         self.assertEqual((shown["open"], ended), ([], [(1, ["MILL"], 2)]))
 
     def test_a_period_that_is_over(self) -> None:
-        """Today is no day of it: that is said. Its hand-over shows supply at its last second."""
+        """It is looked at, told and handed over at its last second; that today is no day of it is said."""
         screen = self.screen("--no-desk")
         status, shown = screen.call("/api/sheet?day=today")
         self.assertEqual(status, 422)
         self.assertRegex(shown["words"], r"today, \d{4}-\d\d-\d\d, is no day of the book's period")
-        self.assertEqual(screen.call("/api/changes")[1]["as_of"]["text"], "2025-04-06T23:59:59+02:00")
+        last = {"second": 1_743_976_799, "text": "2025-04-06T23:59:59+02:00"}
+        self.assertEqual(screen.call("/api/second")[1], {**last, "goes": False, "gone": 0.0})
+        self.assertEqual(screen.call("/api/now")[1]["at"], last)
+        self.assertEqual(screen.call("/api/changes")[1]["as_of"], last)
 
 
 class Typed(unittest.TestCase):
