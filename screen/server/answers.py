@@ -1,7 +1,5 @@
 """What the desk answers to questions that change nothing: the supply at a second, and the plan of a command."""
 
-from __future__ import annotations
-
 import json
 from collections.abc import Sequence
 from dataclasses import dataclass

@@ -1,7 +1,5 @@
 """Work that takes its time, off the loop: each kind of it has a thread of its own, so that none waits for another kind."""
 
-from __future__ import annotations
-
 import asyncio
 from collections.abc import Callable, Coroutine
 from concurrent.futures import ThreadPoolExecutor

@@ -1,7 +1,5 @@
 """The kinds of commands that a book knows, each with the names of its fields; a command as an object of texts."""
 
-from __future__ import annotations
-
 from collections.abc import Mapping, Sequence
 
 FIELDS: dict[str, tuple[str, ...]] = {

@@ -1,7 +1,5 @@
 """The desk as the screen's server speaks to it: one request at a time, each over a connection of its own that is closed."""
 
-from __future__ import annotations
-
 import asyncio
 import ctypes
 import json

@@ -5,8 +5,6 @@ What was tried leaves the copy's entries with other numbers and revisions than t
 withdrawn again, a correction is corrected back, and a withdrawal is tried as a correction to the period's first second and the
 position that the device has there anyway: the entry acts as if it were withdrawn, and is corrected back."""
 
-from __future__ import annotations
-
 import asyncio
 import os
 import secrets

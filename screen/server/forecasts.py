@@ -1,8 +1,6 @@
 """What a page shows of what a command would do: the desk's plan, with the sections that lose or get back supply, what a person
 should know who enters it, and why a closing gives nobody back supply."""
 
-from __future__ import annotations
-
 from collections.abc import Iterable, Mapping, Sequence
 
 from .answers import Interval, NotPlanned, Plan, Supply

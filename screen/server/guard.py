@@ -4,8 +4,6 @@ Each connection has one request. A connection that says nothing, or half of some
 that doesn't read what it is sent; one whose head is too long is told so. The web server behind it sees whole heads alone.
 """
 
-from __future__ import annotations
-
 import asyncio
 import re
 from dataclasses import dataclass

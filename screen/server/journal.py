@@ -1,7 +1,5 @@
 """The screen's own log: who sent what under which reference, when, and what was answered. Append only, a JSON object a line."""
 
-from __future__ import annotations
-
 import json
 import os
 from collections.abc import Iterator, Sequence

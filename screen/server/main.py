@@ -1,7 +1,5 @@
 """The command `outagebook-screen`: its words, and the run of the server."""
 
-from __future__ import annotations
-
 import argparse
 import asyncio
 import logging

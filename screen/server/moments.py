@@ -1,7 +1,5 @@
 """Moments as people type them: by the clock of the book's zone, with the offset where that clock shows an hour twice."""
 
-from __future__ import annotations
-
 import re
 import time
 from bisect import bisect_left

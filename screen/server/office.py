@@ -1,7 +1,5 @@
 """The screen's server behind its pages: the state that is kept in step, the desk, the log, and who is told of what."""
 
-from __future__ import annotations
-
 import asyncio
 import re
 from collections import OrderedDict, deque

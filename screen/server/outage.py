@@ -1,7 +1,5 @@
 """A whole outage: what its steps would do one after the other, the order in which they are sent, and the entries that it has."""
 
-from __future__ import annotations
-
 import json
 from collections import defaultdict
 from collections.abc import Sequence

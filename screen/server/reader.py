@@ -1,7 +1,5 @@
 """The rows of a book, by the tools' reader: the one module that knows where the tools stand."""
 
-from __future__ import annotations
-
 import sqlite3
 import sys
 from collections.abc import Iterator, Sequence

@@ -1,7 +1,5 @@
 """Why a closing gives nobody back supply: the devices above that are open."""
 
-from __future__ import annotations
-
 from .answers import Supply
 from .diagram import closed_devices, layout_of, supplied_nodes
 from .state import State

@@ -1,7 +1,5 @@
 """The desk's refusals in a person's words, beside their number."""
 
-from __future__ import annotations
-
 from collections.abc import Sequence
 from typing import Any
 

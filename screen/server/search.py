@@ -1,7 +1,5 @@
 """The search of the switching log: which entries some filters ask for. What can't be read is refused, and says why."""
 
-from __future__ import annotations
-
 import re
 from collections.abc import Callable
 

@@ -1,8 +1,6 @@
 """What a shift did and hands over: the log by time of sending, what was entered since a time and by whom, open outages,
 marked days."""
 
-from __future__ import annotations
-
 import re
 import time
 from collections.abc import Iterable

@@ -1,8 +1,6 @@
 """A book's rows in memory, kept in step command by command: what was said, and nothing that follows from it. Who has supply,
 what a command would do and what it moved are the desk's answers."""
 
-from __future__ import annotations
-
 import copy
 import time
 from collections import Counter, defaultdict, deque

@@ -4,8 +4,6 @@ They are the desk's figures of the whole period, less what outages that the desk
 customers who are in service then. At the period's end nothing is left out.
 """
 
-from __future__ import annotations
-
 import time
 from collections import defaultdict
 from collections.abc import Container, Iterable, Sequence

@@ -1,7 +1,5 @@
 """What the pages show of a state: plain values for JSON. Each moment comes with its text by the clock of the book's zone."""
 
-from __future__ import annotations
-
 import re
 from collections.abc import Container, Iterable, Sequence
 from typing import Any

@@ -1,7 +1,5 @@
 """The routes of the screen, and what each request has to bring: its host, its origin, its token, its login."""
 
-from __future__ import annotations
-
 import asyncio
 import base64
 import hashlib

@@ -1,7 +1,5 @@
 """The program's annual table, line by line as it stands, and what else is made of a whole book: report and downloads."""
 
-from __future__ import annotations
-
 import subprocess
 import tempfile
 from pathlib import Path

@@ -1,7 +1,5 @@
 """Headless Chromium for the screen's tests."""
 
-from __future__ import annotations
-
 import base64
 import tempfile
 import time

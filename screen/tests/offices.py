@@ -1,7 +1,5 @@
 """Tests inside the screen's server: what joins its parts, over a desk and its copy, without a browser's requests."""
 
-from __future__ import annotations
-
 import asyncio
 import time
 import unittest

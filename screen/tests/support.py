@@ -1,7 +1,5 @@
 """For the screen's tests: books, desks and screens in folders that go away."""
 
-from __future__ import annotations
-
 import atexit
 import itertools
 import json
