@@ -5,7 +5,6 @@ from collections.abc import Iterable, Mapping, Sequence
 
 from .answers import Interval, NotPlanned, Plan, Supply
 from .commands import FIELDS
-from .moments import duration
 from .office import Office
 from .reader import Moves
 from .reasons import still_cut_off
@@ -31,7 +30,6 @@ async def forecast(office: Office, kind: str, fields: Sequence[str]) -> Json:
     supply = None if second is None else await office.supply(second)
     shown = forecast_view(office.state, kind, fields, planned.moves, changes_of([planned]))
     shown |= notes_of(office.state, kind, fields, supply, bool(shown["sections"]))
-    shown["hints"] += late_hints(kind, -ahead_of(office.state, second))
     if kind in ("mark", "unmark"):
         shown["unmarked"] = await marks_view(office, kind, fields)
         shown["hints"] += [] if shown["unmarked"] else [NO_COPY]
@@ -50,10 +48,6 @@ def second_of(kind: str, fields: Sequence[str]) -> int | None:
     return int(text) if text.isdecimal() else None
 
 
-def ahead_of(state: State, second: int | None) -> int:
-    return 0 if second is None else second - state.now()
-
-
 def changes_of(plans: Iterable[Plan]) -> Changes:
     """The sections that some plans change, each on what those before it leave: their outages before and after all."""
     found: dict[str, tuple[Sequence[Interval], Sequence[Interval]]] = {}
@@ -64,7 +58,8 @@ def changes_of(plans: Iterable[Plan]) -> Changes:
 
 
 def forecast_view(state: State, kind: str, fields: Sequence[str], moves: Moves, changes: Changes) -> Json:
-    ahead = ahead_of(state, second_of(kind, fields))
+    second = second_of(kind, fields)
+    ahead = 0 if second is None else second - state.now()
     return {
         "number": state.number,
         "sections": sections_of(state, changes),
@@ -74,7 +69,8 @@ def forecast_view(state: State, kind: str, fields: Sequence[str], moves: Moves, 
         "reason": None,
         "is_live": is_live(state),
         "unmarked": None,
-        "future": duration(ahead) if ahead > FUTURE_SECONDS else None,
+        "future": ahead if ahead > FUTURE_SECONDS else 0,
+        "late": -ahead if kind == "switch" and -ahead > LATE_SECONDS else 0,
         "words": command_words(state, kind, fields),
     }
 
@@ -131,11 +127,3 @@ def notes_of(state: State, kind: str, fields: Sequence[str], supply: Supply | No
     entry = len(state.entries) + 1 if is_switch else int(fields[0])
     reason = still_cut_off(state, supply, device, entry) if closes and not changes_supply else None
     return {"hints": hints, "reason": reason}
-
-
-def late_hints(kind: str, behind: int) -> list[str]:
-    return (
-        [f"This is a late entry: it lies {duration(behind)} back."]
-        if kind == "switch" and behind > LATE_SECONDS
-        else []
-    )

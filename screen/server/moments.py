@@ -20,13 +20,6 @@ LAST = 99_999_999_999
 AHEAD_SECONDS = 60  # that a clock may go before the server's
 
 
-def duration(seconds: int) -> str:
-    """A length of time by its two largest units."""
-    parts = ((seconds // 86_400, "d"), (seconds // 3_600 % 24, "h"), (seconds // 60 % 60, "min"), (seconds % 60, "s"))
-    first = next((place for place, (count, _) in enumerate(parts) if count), len(parts) - 1)
-    return " ".join(f"{count} {unit}" for count, unit in parts[first : first + 2] if count) or "0 s"
-
-
 def double_hours(zone: Zone, bounds: Sequence[int]) -> list[tuple[str, str]]:
     """The times of some days that the clock shows twice: of each span the first one, and the one at which it ends."""
     found = []
