@@ -3,6 +3,7 @@
 import json
 import os
 from collections.abc import Iterator, Sequence
+from contextlib import suppress
 from dataclasses import dataclass
 from datetime import datetime, timezone
 from functools import partial
@@ -49,12 +50,10 @@ class Journal:
 
     def _remember(self, line: str) -> None:
         """A line that was cut off by a loss of power is left out of what pages show; the file keeps it."""
-        try:
+        with suppress(ValueError, TypeError, LookupError):
             row = json.loads(line)
             if isinstance(row, dict):
                 self._keep(row)
-        except (ValueError, TypeError, LookupError):
-            pass
 
     def _keep(self, row: dict[str, Any]) -> None:
         at, login, reference = second_of(row), str(row.get("login", "")), str(row.get("reference", ""))

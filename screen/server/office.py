@@ -3,8 +3,8 @@
 import asyncio
 import re
 from collections import OrderedDict, deque
-from collections.abc import Sequence
-from contextlib import suppress
+from collections.abc import Iterator, Sequence
+from contextlib import contextmanager, suppress
 from pathlib import Path
 from typing import Any
 
@@ -48,13 +48,15 @@ class Hub:
                     page.get_nowait()
             page.put_nowait(event)
 
-    def join(self, login: str) -> asyncio.Queue[dict[str, Any]]:
+    @contextmanager
+    def page(self, login: str) -> Iterator[asyncio.Queue[dict[str, Any]]]:
+        """A page's events, as long as it is open."""
         page: asyncio.Queue[dict[str, Any]] = asyncio.Queue(WAITING_EVENTS)
         self.pages[page] = login
-        return page
-
-    def leave(self, page: asyncio.Queue[dict[str, Any]]) -> None:
-        self.pages.pop(page, None)
+        try:
+            yield page
+        finally:
+            del self.pages[page]
 
 
 class Office:

@@ -9,11 +9,12 @@ import re
 import secrets
 import time
 from collections.abc import Awaitable, Callable, Coroutine
+from contextlib import suppress
 from dataclasses import dataclass, field
 from functools import partial
 from inspect import isawaitable
 from pathlib import Path
-from typing import Any
+from typing import Any, cast
 from urllib.parse import urlsplit
 
 from aiohttp import web
@@ -67,13 +68,11 @@ SETTINGS = "settings"
 
 
 def office_of(request: web.Request) -> Office:
-    found: Office = request.app[OFFICE]
-    return found
+    return cast(Office, request.app[OFFICE])
 
 
 def settings_of(request: web.Request) -> Settings:
-    found: Settings = request.app[SETTINGS]
-    return found
+    return cast(Settings, request.app[SETTINGS])
 
 
 def answer(status: int, shown: Any) -> web.Response:
@@ -439,8 +438,7 @@ async def events(request: web.Request) -> web.StreamResponse:
     if office.hub.count(login) >= most:
         return complaint(429, "pages", f"this login has {most} pages open: close some of them")
     stream = web.StreamResponse(headers={"Content-Type": "text/event-stream", "X-Accel-Buffering": "no"})
-    queue = office.hub.join(login)
-    try:
+    with suppress(ConnectionError, asyncio.TimeoutError), office.hub.page(login) as queue:
         await stream.prepare(request)
         await write_event(stream, {"what": "hello", **office.desk_view()})
         while True:
@@ -449,10 +447,6 @@ async def events(request: web.Request) -> web.StreamResponse:
             except asyncio.TimeoutError:
                 event = {"what": "beat", **office.desk_view()}
             await write_event(stream, event)
-    except (ConnectionError, asyncio.TimeoutError):
-        pass
-    finally:
-        office.hub.leave(queue)
     return stream
 
 
