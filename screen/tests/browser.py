@@ -6,7 +6,7 @@ import time
 from collections.abc import Callable, Iterator
 from contextlib import contextmanager
 from pathlib import Path
-from typing import Any
+from typing import Any, cast
 
 import support
 from selenium import webdriver
@@ -107,22 +107,18 @@ class Browser:
         return self.driver.execute_script(f"{PROBES}\nreturn {name}(...arguments);", *given)
 
     def all(self, selector: str) -> list[WebElement]:
-        found: list[WebElement] = self.driver.find_elements(By.CSS_SELECTOR, selector)
-        return found
+        return list(self.driver.find_elements(By.CSS_SELECTOR, selector))
 
     def find(self, selector: str) -> WebElement:
-        found: WebElement = self.wait(lambda: self.all(selector), selector)[0]
-        return found
+        return cast(WebElement, self.wait(lambda: self.all(selector), selector)[0])
 
     def field(self, label: str) -> WebElement:
         """The field of a label."""
-        found: WebElement = self.wait(lambda: self.probe("field", label), label)
-        return found
+        return cast(WebElement, self.wait(lambda: self.probe("field", label), label))
 
     def value(self, label: str) -> str | None:
         """What the field of a label has."""
-        found: str | None = self.field(label).get_attribute("value")
-        return found
+        return cast(str | None, self.field(label).get_attribute("value"))
 
     @property
     def title(self) -> str:
@@ -130,8 +126,7 @@ class Browser:
 
     @property
     def focus(self) -> WebElement:
-        found: WebElement = self.driver.switch_to.active_element
-        return found
+        return cast(WebElement, self.driver.switch_to.active_element)
 
     def text(self, selector: str) -> str:
         script = "return [...document.querySelectorAll(arguments[0])].map((each) => each.innerText).join('\\n')"

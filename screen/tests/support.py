@@ -16,7 +16,8 @@ import time
 import unittest
 import urllib.error
 import urllib.request
-from collections.abc import Callable, Sequence
+from collections.abc import Callable, Iterable, Sequence
+from contextlib import suppress
 from datetime import datetime, timedelta, timezone
 from functools import lru_cache, partial
 from pathlib import Path
@@ -51,34 +52,35 @@ def output_of(*words: object) -> bytes:
     return subprocess.run(list(map(str, words)), check=True, capture_output=True).stdout
 
 
-def new_book(name: str, text: Path | None = None, period: tuple[str, str, str] = FORTNIGHT) -> Path:
+def new_book(name: str, text: str = "", period: tuple[str, str, str] = FORTNIGHT) -> Path:
     """A book of a text in a folder of its own."""
-    place = folder() / name
-    place.mkdir()
-    book = place / "book.db"
+    book, rows = folder() / name / "book.db", folder() / name / "rows.csv"
+    book.parent.mkdir()
     first, days, zone = period
     run("init", "--book", book, "--first", first, "--days", days, "--zone", zone)
-    if text is not None:
-        run("import", "--book", book, text)
+    if text:
+        rows.write_text(text)
+        run("import", "--book", book, rows)
     return book
 
 
-@lru_cache(maxsize=None)
-def made(name: str, text: Path, period: tuple[str, str, str]) -> Path:
-    """The folder of a book that is imported once, and copied for each test; SCREEN_BOOKS keeps it for later runs."""
-    kept = os.environ.get("SCREEN_BOOKS")
-    if not kept:
-        return new_book(f"made-{name}", text, period).parent
-    place = Path(kept) / name
-    if not place.exists():
-        shutil.copytree(new_book(f"made-{name}", text, period).parent, place)
-    return place
+def copied(name: str, what: str, text: str, period: tuple[str, str, str]) -> Path:
+    """A copy of a book that is imported once, in a folder of its own; SCREEN_BOOKS keeps that one for later runs."""
+    made = Path(os.environ.get("SCREEN_BOOKS", folder())) / f"{what}-{period[0]}"
+    if not made.exists():
+        shutil.move(new_book(f"made-{what}", text, period).parent, made)
+    shutil.copytree(made, folder() / name)
+    return folder() / name / "book.db"
 
 
 def fortnight(name: str) -> Path:
-    """The sample's book in a folder of its own."""
-    shutil.copytree(made("fortnight", FORTNIGHT_FILES / "fortnight.csv", FORTNIGHT), folder() / name)
-    return folder() / name / "book.db"
+    """The sample's book."""
+    return copied(name, "fortnight", (FORTNIGHT_FILES / "fortnight.csv").read_text(), FORTNIGHT)
+
+
+def text_of(rows: Iterable[str]) -> str:
+    """The text of an import."""
+    return "\n".join(["kind,ref,f1,f2,f3,f4,f5,f6", *rows, ""])
 
 
 SMALL = """kind,ref,f1,f2,f3,f4,f5,f6
@@ -93,11 +95,6 @@ connect,N8,2,MILL,0,,,
 connect,N9,3,MILL,0,,,
 """
 LAST_OF_SMALL = 9  # its last command
-
-
-def small(name: str, days_ago: int = 7) -> Path:
-    """A book of two sections, whose fortnight began some days ago: its desk is quick to start."""
-    return live(name, "small", SMALL, days_ago)
 
 
 def storm_text(feeders: int = 3, branches: int = 4, length: int = 1) -> str:
@@ -119,16 +116,13 @@ def storm_text(feeders: int = 3, branches: int = 4, length: int = 1) -> str:
             count = 1 + (feeder + branch + step - 2) % 9
             add(f"MILL-{names[step - 1]}", f"LBS-{names[step - 1]}", above, count, feeder)
     rows += [f"connect,C{number},{number},{section},0,,," for number, section in enumerate(customers, 1)]
-    return "\n".join(["kind,ref,f1,f2,f3,f4,f5,f6", *rows]) + "\n"
+    return text_of(rows)
 
 
-def live(name: str, what: str, text: str, days_ago: int = 7) -> Path:
-    """A book whose fortnight began some days ago."""
-    first = (datetime.now(timezone.utc).date() - timedelta(days=days_ago)).isoformat()
-    path = folder() / f"{what}.csv"
-    path.write_text(text)
-    shutil.copytree(made(f"{what}-{first}", path, (first, *FORTNIGHT[1:])), folder() / name)
-    return folder() / name / "book.db"
+def live(name: str, what: str = "small", text: str = SMALL) -> Path:
+    """A book whose fortnight began seven days ago; that of two sections has a desk that is quick to start."""
+    first = (datetime.now(timezone.utc).date() - timedelta(days=7)).isoformat()
+    return copied(name, what, text, (first, *FORTNIGHT[1:]))
 
 
 WAIT_SECONDS = 90  # as long as a busy machine may take; what comes sooner isn't waited for
@@ -227,13 +221,11 @@ class Client:
 
     def entries(self) -> list[Any]:
         """The first rows of the switching log, newest first."""
-        found: list[Any] = self.call("/api/sheet")[1]["rows"]
-        return found
+        return list(self.call("/api/sheet")[1]["rows"])
 
     def number(self) -> int:
         """The last command that the screen knows."""
-        found: int = self.call("/health")[1]["number"]
-        return found
+        return int(self.call("/health")[1]["number"])
 
 
 class Screen(Client):
@@ -301,10 +293,8 @@ class Between:
         """Answers with a status from now on (0: hands on again), and cuts what is open."""
         self.status = status
         for each in list(self.open):
-            try:
+            with suppress(OSError):
                 each.shutdown(socket.SHUT_RDWR)
-            except OSError:
-                pass
 
     def hold(self, is_held: bool) -> None:
         """Lets all connections die, those that are open and those of the time in which it holds: none is ended."""
@@ -312,34 +302,31 @@ class Between:
         self.dead |= self.open
 
     def run(self) -> None:
-        while True:
-            try:
+        with suppress(OSError):  # until it is closed
+            while True:
                 client, _ = self.socket.accept()
-            except OSError:
-                return
-            threading.Thread(target=self.serve, args=(client,), daemon=True).start()
+                threading.Thread(target=self.serve, args=(client,), daemon=True).start()
 
     def serve(self, client: socket.socket) -> None:
         self.open.add(client)
-        try:
-            with client:
-                data = client.recv(65_536)
-                if self.status:
-                    page = f"HTTP/1.1 {self.status} No\r\nContent-Type: text/html\r\nContent-Length: 2\r\n"
-                    client.sendall(f"{page}Connection: close\r\n\r\nno".encode())
-                    return
-                is_post = data.startswith(b"POST")
-                is_cut = is_post and self.cuts > 0
-                self.cuts, self.posts = self.cuts - is_cut, self.posts + is_post
-                self.routes += data.decode(errors="replace").split(" ")[1:2]
-                with socket.create_connection(("127.0.0.1", self.to)) as other:
-                    other.sendall(data)
-                    threading.Thread(target=pump, args=(client, other, self.is_dead), daemon=True).start()
-                    pump(other, client, (lambda *_: True) if is_cut else self.is_dead)
-        except OSError:
-            pass
-        finally:
-            self.open.discard(client)
+        with suppress(OSError), client:
+            data = client.recv(65_536)
+            if self.status:
+                page = f"HTTP/1.1 {self.status} No\r\nContent-Type: text/html\r\nContent-Length: 2\r\n"
+                client.sendall(f"{page}Connection: close\r\n\r\nno".encode())
+            else:
+                self.hand_on(client, data)
+        self.open.discard(client)
+
+    def hand_on(self, client: socket.socket, data: bytes) -> None:
+        is_post = data.startswith(b"POST")
+        is_cut = is_post and self.cuts > 0
+        self.cuts, self.posts = self.cuts - is_cut, self.posts + is_post
+        self.routes += data.decode(errors="replace").split(" ")[1:2]
+        with socket.create_connection(("127.0.0.1", self.to)) as other:
+            other.sendall(data)
+            threading.Thread(target=pump, args=(client, other, self.is_dead), daemon=True).start()
+            pump(other, client, (lambda *_: True) if is_cut else self.is_dead)
 
     def is_dead(self, *ends: socket.socket) -> bool:
         if self.is_held:
@@ -353,13 +340,11 @@ class Between:
 
 def pump(source: socket.socket, to: socket.socket, is_dead: Callable[..., bool]) -> None:
     """Hands bytes on until one side ends; a dead connection takes them and hands on none."""
-    try:
+    with suppress(OSError):
         while data := source.recv(65_536):
             if not is_dead(source, to):
                 to.sendall(data)
         to.shutdown(socket.SHUT_RDWR)
-    except OSError:
-        pass
 
 
 class Case(unittest.TestCase):

@@ -5,7 +5,6 @@ import os
 import random
 import threading
 import time
-import unittest
 from collections import Counter
 from concurrent.futures import ThreadPoolExecutor
 from http.server import BaseHTTPRequestHandler, ThreadingHTTPServer
@@ -234,9 +233,7 @@ class Operators(Case):
 
     def test_hours_of_the_books_zone(self) -> None:
         rows = ("section,N1,S1,1,,,,", "device,N2,B1,GRID,S1,closed,,", "connect,N3,1,S1,0,,,", "cause,N4,1,TREE,,,,")
-        text = support.folder() / "autumn.csv"
-        text.write_text("\n".join(["kind,ref,f1,f2,f3,f4,f5,f6", *rows, ""]))
-        book = support.new_book("autumn", text, ("2025-10-20", "14", support.FORTNIGHT[2]))
+        book = support.new_book("autumn", support.text_of(rows), ("2025-10-20", "14", support.FORTNIGHT[2]))
         screen = self.screen(book=book)
         page = self.one
         page.open(f"{screen.url}/enter?device=B1")
@@ -274,7 +271,7 @@ class Live(Case):
         super().setUpClass()
         cls.proxy = support.Between()
         cls.addClassCleanup(cls.proxy.end)
-        cls.share(support.small(cls.__name__), "--host", f"127.0.0.1:{cls.proxy.port}")
+        cls.share(support.live(cls.__name__), "--host", f"127.0.0.1:{cls.proxy.port}")
         cls.proxy.to, cls.url = cls.live.port, cls.proxy.url
 
     def setUp(self) -> None:
@@ -809,9 +806,7 @@ class Pages(Case):
             fields.append(f"device,R,{word}-D{number},{nodes},{normal},,")
         fields += [f"connect,R,1,{word}-S1,0,,,", f"switch,R,{word}-D1,open,2025-03-25T10:00:00+01:00,1,{'M' * 16},"]
         rows = [row.replace(",R,", f",{'R' * 38}{number:02},", 1) for number, row in enumerate(fields)]
-        text = support.folder() / "long.csv"
-        text.write_text("\n".join(["kind,ref,f1,f2,f3,f4,f5,f6", *rows, ""]))
-        screen = self.screen(book=support.new_book("long-names", text))
+        screen = self.screen(book=support.new_book("long-names", support.text_of(rows)))
         for page in self.browsers:
             for route in ("/", "/sheet?entry=1", f"/enter?device={word}-D1", "/network", "/year", SHIFT):
                 page.open(screen.url + route, "M" * 16)
@@ -1022,7 +1017,3 @@ class Crowd(Case):
         page.wait(answered, "the reply")
         told = page.text(".outcome")
         self.assertTrue("As forecast" in told or "the book had changed in between" in told, told)
-
-
-if __name__ == "__main__":
-    unittest.main()

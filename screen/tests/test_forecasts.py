@@ -3,7 +3,6 @@ and the copy that follows the desk answers as it does."""
 
 import os
 import random
-import unittest
 import unittest.mock
 from collections.abc import Callable
 from typing import Any
@@ -250,7 +249,3 @@ class Alone(unittest.TestCase):
         ):
             with self.assertRaises(state.Refused, msg=wrong[:40]):
                 outage.steps_in(wrong)
-
-
-if __name__ == "__main__":
-    unittest.main()

@@ -171,7 +171,3 @@ class Load(support.Case):
         page.wait(lambda: page.find(".diagram-place").get_attribute("aria-busy") == "false", "the whole diagram")
         self.assertEqual(len(page.all(".diagram a")), 1_500)
         self.assertEqual(page.complaints(), [])
-
-
-if __name__ == "__main__":
-    unittest.main()

@@ -70,8 +70,7 @@ class Outages(Case):
 
     def saved(self) -> list[dict[str, Any]]:
         """The entries, in the order in which they came."""
-        rows: list[dict[str, Any]] = self.live.call("/api/sheet")[1]["rows"]
-        return sorted(rows, key=lambda row: int(row["no"]))
+        return self.live.entries()[::-1]
 
     def test_three_restorations_by_seventy_keys_and_one_send(self) -> None:
         """Meanwhile nobody is shown that it goes on; then it is undone at once."""
@@ -306,7 +305,3 @@ class References(unittest.TestCase):
             "": None,
         }.items():
             self.assertEqual(names.outage_in(reference), name, reference)
-
-
-if __name__ == "__main__":
-    unittest.main()

@@ -138,7 +138,3 @@ class BehindNginx(support.Case):
         page.says(".outcome .equal", "As forecast")
         self.assertEqual(self.live.number(), 103)
         self.assertEqual(page.complaints(), [])
-
-
-if __name__ == "__main__":
-    unittest.main()

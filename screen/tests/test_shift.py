@@ -2,7 +2,6 @@
 
 import re
 import time
-import unittest
 import unittest.mock
 import urllib.parse
 from datetime import datetime, timedelta
@@ -23,7 +22,7 @@ class Shift(support.Case):
 
     @classmethod
     def setUpClass(cls) -> None:
-        cls.ours = support.Desk(support.small(cls.__name__))
+        cls.ours = support.Desk(support.live(cls.__name__))
         cls.addClassCleanup(cls.ours.kill)
         cls.share(cls.ours.book, desk=cls.ours)
 
@@ -142,7 +141,7 @@ class Pages(support.Case):
 
     @classmethod
     def setUpClass(cls) -> None:
-        cls.share(support.small(cls.__name__))
+        cls.share(support.live(cls.__name__))
         cls.page = browser.Browser()
         cls.addClassCleanup(cls.page.end)
         for position in ("open", "close"):
@@ -208,7 +207,7 @@ class Pages(support.Case):
 class Stops(support.Case):
     def test_what_came_while_the_screen_was_stopped(self) -> None:
         """It is in the log, as of another program; a command of the screen's own that had no answer isn't said to be lost."""
-        desk = self.desk(support.small("stopped"))
+        desk = self.desk(support.live("stopped"))
         screen = support.Screen(desk.book, desk=desk)
         screen.log_in("ANNA")
         screen.switch("open", "LBS-1", second=int(time.time()) - 50)
@@ -297,7 +296,3 @@ class Typed(unittest.TestCase):
     def read(self, typed: str, now: int = 1_795_872_600, may_come: bool = False) -> list[int]:
         with unittest.mock.patch("time.time", return_value=float(now)):
             return moments.read_moment(ZONE, typed, may_come)
-
-
-if __name__ == "__main__":
-    unittest.main()

@@ -2,7 +2,6 @@
 
 import os
 import time
-import unittest
 from collections import Counter
 
 import browser
@@ -261,7 +260,3 @@ class LargeStorm(support.Case):
         if support.limit(1) == 1:  # else a task waits for other programs
             self.assertLess(longest, LONG_TASK)
         self.assertEqual(page.complaints(), [])
-
-
-if __name__ == "__main__":
-    unittest.main()
