@@ -31,6 +31,7 @@ PROGRAM = Path(os.environ.get("OUTAGEBOOK", ROOT / "crates/outagebook/out/outage
 sys.path.insert(0, str(SCREEN))
 
 FORTNIGHT = ("2025-03-24", "14", "CET-1CEST,M3.5.0,M10.5.0/3")
+FIRST, END = 1_742_770_800, 1_743_976_800  # of the fortnight
 
 
 @lru_cache(maxsize=None)

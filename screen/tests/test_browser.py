@@ -13,9 +13,9 @@ import browser
 import support
 from selenium.webdriver.common.keys import Keys
 from server.reader import read_rows
+from support import END, FIRST
 from test_server import LIGHTHOUSE
 
-FIRST, END = 1_742_770_800, 1_743_976_800  # of the sample fortnight
 COMMANDS = int(os.environ.get("SCREEN_COMMANDS", "24"))
 AWAY_SECONDS = float(os.environ.get("SCREEN_AWAY", "2"))  # in which the proxy answers 502
 LATE = "/enter?device=LBS-22&at=2025-04-06T23:52:00%2B02:00"

@@ -10,8 +10,7 @@ from typing import Any
 import offices
 import support
 from server import forecasts, to_now, year
-
-FIRST, END = 1_742_770_800, 1_743_976_800  # of the sample fortnight
+from support import END, FIRST
 
 
 class Figures(offices.Case):

@@ -11,9 +11,9 @@ import offices
 import support
 from server import diagram, forecasts, outage, reader, state
 from server.office import new_state
+from support import END, FIRST
 
 COMMANDS = int(os.environ.get("SCREEN_FORECASTS", "300"))
-FIRST, END = 1_742_770_800, 1_743_976_800
 Step = list[str]
 
 
