@@ -135,9 +135,8 @@ class OwnDesk:
         pipe = asyncio.subprocess.PIPE
         self.process = None
         try:
-            self.process = await asyncio.create_subprocess_exec(
-                *words, stdout=pipe, stderr=pipe, preexec_fn=end_with_parent
-            )
+            starting = asyncio.create_subprocess_exec(*words, stdout=pipe, stderr=pipe, preexec_fn=end_with_parent)
+            self.process = await starting
         except OSError as error:
             self.is_final = True
             return f"the program {self.program} can't be run: {error.strerror}"

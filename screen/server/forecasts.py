@@ -119,9 +119,7 @@ def notes_of(state: State, kind: str, fields: Sequence[str], supply: Supply | No
     device = state.device_numbers[fields[0]] if is_switch else state.entries[int(fields[0]) - 1].device
     name, hints = state.devices[device].name, []
     if is_switch and not supply.alive[name]:
-        hints.append(
-            f"{name} isn't in the network at that second: the entry acts from the beginning of a later life on."
-        )
+        hints.append(f"{name} isn't in the network at that second: the entry acts from the start of a later life on.")
     if is_switch and supply.closed[name] == closes:
         hints.append(f"{name} is {'closed' if closes else 'open'} at that second already.")
     entry = len(state.entries) + 1 if is_switch else int(fields[0])

@@ -37,14 +37,10 @@ def seconds(text: str) -> float:
 
 
 def read_words() -> argparse.Namespace:
-    words = Parser(
-        prog="outagebook-screen", description="The screen of an outage book's desk, for browsers on 127.0.0.1."
-    )
+    words = Parser(prog="outagebook-screen", description="The screen of an outage book, for browsers on 127.0.0.1.")
     words.add_argument("--book", metavar="FILE", type=Path, required=True, help="the book that the desk serves")
     words.add_argument("--port", type=int, default=8081, help="the port of 127.0.0.1 (8081); 0 takes one that is free")
-    words.add_argument(
-        "--desk", metavar="URL", help="a desk that is there; without it the screen starts one of its own"
-    )
+    words.add_argument("--desk", metavar="URL", help="a desk that is there; without it the screen starts its own")
     words.add_argument("--no-desk", action="store_true", help="look at a copy of a book, without any desk")
     words.add_argument("--program", metavar="PATH", default="outagebook", help="the program (outagebook on the path)")
     words.add_argument("--read-only", action="store_true", help="nobody may send commands")
@@ -53,12 +49,8 @@ def read_words() -> argparse.Namespace:
     words.add_argument("--name", metavar="TEXT", help="the book's name on each page (that of its file)")
     words.add_argument("--training", action="store_true", help="a book for training: pages have another colour")
     words.add_argument("--host", metavar="NAME", action="append", default=[], help="a name by which browsers call it")
-    words.add_argument(
-        "--log", metavar="FILE", type=Path, help="the screen's own log (the book's name and -screen.jsonl)"
-    )
-    words.add_argument(
-        "--head-seconds", metavar="N", type=seconds, default=Limits.head, help="for a request's head (10)"
-    )
+    words.add_argument("--log", metavar="FILE", type=Path, help="its own log (the book's name and -screen.jsonl)")
+    words.add_argument("--head-seconds", metavar="N", type=seconds, default=Limits.head, help="for a whole head (10)")
     words.add_argument("--body-seconds", metavar="N", type=seconds, default=Limits.body, help="for its body (30)")
     given = words.parse_args()
     if given.desk and given.no_desk:

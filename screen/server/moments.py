@@ -24,11 +24,10 @@ def double_hours(zone: Zone, bounds: Sequence[int]) -> list[tuple[str, str]]:
     """The times of some days that the clock shows twice: of each span the first one, and the one at which it ends."""
     found = []
     for since, until in zip(bounds, bounds[1:]):
-        back = zone.offset_at(since) - zone.offset_at(until)
+        offset = zone.offset_at(since)
+        back = offset - zone.offset_at(until)
         if back > 0:
-            turn = since + bisect_left(
-                range(since, until), True, key=lambda at: zone.offset_at(at) < zone.offset_at(since)
-            )
+            turn = since + bisect_left(range(since, until), True, key=lambda at: zone.offset_at(at) < offset)
             begin = datetime.fromisoformat(zone.text_of(turn)[:19])
             found.append((begin.isoformat(), (begin + timedelta(seconds=back)).isoformat()))
     return found

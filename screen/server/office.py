@@ -2,7 +2,7 @@
 
 import asyncio
 import re
-from collections import OrderedDict, deque
+from collections import deque
 from collections.abc import Iterator, Sequence
 from contextlib import contextmanager, suppress
 from pathlib import Path
@@ -26,6 +26,7 @@ AWAY_WORDS = (
     "The desk gave no answer, so it isn't known whether this is saved. Send it again: it goes under the same reference, "
     "and acts once."
 )
+Told = tuple[int, dict[str, Any]]  # a status, and what the page is told
 PLAIN = re.compile(r"0|[1-9][0-9]*|-")
 NUMBERS = ("entry", "revision", "customer", "cause", "second", "since", "until", "beginning", "end")  # fields that are
 
@@ -68,7 +69,7 @@ class Office:
         self.in_step = asyncio.Lock()
         self.rows, self.tables, self.reports = Apart("rows"), Apart("tables"), Apart("reports")
         self.kept: dict[str, Kept] = {}  # what is made of the whole book, by name
-        self.undos: OrderedDict[int, tuple[str, ...] | None] = OrderedDict()  # by command: what takes it back
+        self.undos: dict[int, tuple[str, ...] | None] = {}  # by command: what takes it back
         self.news: deque[dict[str, Any]] = deque(maxlen=KEPT_NEWS)  # the outages that began last, latest first
         self.past_order, self.past_of = asyncio.Lock(), -1
         self.past_known: Past = {}  # as of the command `past_of`
@@ -132,8 +133,7 @@ class Office:
         self.undos[command.number] = undo.undo_of(self.state, command)
         self.state.take(command)
         self.copy.note(command, moves)
-        while len(self.undos) > KEPT_UNDOS:
-            self.undos.popitem(last=False)
+        self.undos.pop(command.number - KEPT_UNDOS, None)
 
     async def tell_commands(self, commands: list[Command], moves: Moves) -> None:
         """Tells all pages of new commands: the last one, with what it moved, and the outages that they began."""
@@ -166,9 +166,7 @@ class Office:
 
     # Commands.
 
-    async def send(
-        self, login: str, command: dict[str, str], seen: int | None, **told: str
-    ) -> tuple[int, dict[str, Any]]:
+    async def send(self, login: str, command: dict[str, str], seen: int | None, **told: str) -> Told:
         """Sends a command until the desk has answered it: the status and what the page is told. `seen` is the last command
         that the page knew of when it showed what this one would do; `told` goes into the log."""
         known = self.state.number
@@ -189,7 +187,7 @@ class Office:
         shown["undo"] = views.command_view(self.state, self.undos.get(number))
         return 200, shown
 
-    def unanswered(self, login: str, reference: str, away: Away) -> tuple[int, dict[str, Any]]:
+    def unanswered(self, login: str, reference: str, away: Away) -> Told:
         self.journal.write(login, reference, unanswered=str(away))
         self.tell_desk()
         return 503, {"error": "away", "words": AWAY_WORDS, "why": str(away)}
@@ -205,7 +203,7 @@ class Office:
             shown["entry"] = refusals.stale_entry(self.state, kind, fields)
         return shown
 
-    async def import_rows(self, login: str, rows: bytes) -> tuple[int, dict[str, Any]]:
+    async def import_rows(self, login: str, rows: bytes) -> Told:
         """Hands a CSV text to the desk: its report."""
         self.journal.write(login, "", sent={"kind": "import", "bytes": len(rows)})
         known, self.is_importing = self.state.number, True

@@ -87,17 +87,15 @@ class Search:
 
     def of_section(self, typed: str) -> Test:
         part = typed.upper()
-        return self.of_sections(lambda name, _: part in name, f"has {part} in its name")
+        return self.of_sections(lambda name, *_: part in name, f"has {part} in its name")
 
     def of_feeder(self, typed: str) -> Test:
-        return self.of_sections(lambda _, feeder: str(feeder) == typed, f"has the home feeder {typed}")
+        return self.of_sections(lambda *node: str(node[2]) == typed, f"has the home feeder {typed}")
 
-    def of_sections(self, is_meant: Callable[[str, int], bool], words: str) -> Test:
+    def of_sections(self, is_meant: Callable[[str, int, int], bool], words: str) -> Test:
         """Entries of the devices at some sections, and those that cut them off."""
-        nodes = enumerate(self.state.nodes)
-        found = {
-            node: name for node, (name, _, feeder) in nodes if self.state.is_section(node) and is_meant(name, feeder)
-        }
+        nodes = self.state.nodes
+        found = {node: nodes[node][0] for node in self.state.sections() if is_meant(*nodes[node])}
         if not found:
             raise Refused(f"no section {words}")
         at_them = {device.number for device in self.state.devices if device.a in found or device.b in found}

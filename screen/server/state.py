@@ -162,6 +162,9 @@ class State:
     def is_section(self, node: int) -> bool:
         return self.nodes[node][1] == SECTION
 
+    def sections(self) -> list[int]:
+        return [node for node in range(len(self.nodes)) if self.is_section(node)]
+
     def feeder_of(self, section: str) -> int:
         return self.nodes[self.node_numbers[section]][2]
 

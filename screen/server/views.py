@@ -117,9 +117,7 @@ def now_view(state: State, supply: Supply) -> Json:
         "at": moment(state, at),
         "outages": outages,
         "customers_out": sum(row.customers for row in supply.outages),
-        "customers_served": sum(
-            state.customers_at(node, at) for node in range(len(state.nodes)) if state.is_section(node)
-        ),
+        "customers_served": sum(state.customers_at(node, at) for node in state.sections()),
         **diagram_view(state, supply),
     }
 

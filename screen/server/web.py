@@ -144,8 +144,6 @@ def refusal_of(request: web.Request) -> web.Response | None:
     hosts = settings_of(request).hosts
     if request.headers.get("Host", "") not in hosts:
         return complaint(403, "host", "this name isn't the screen's: --host tells it another")
-    if request.method not in ("GET", "HEAD", "POST"):
-        return complaint(405, "method", "the screen knows GET and POST", "GET, HEAD, POST")
     site, is_visit = request.headers.get("Sec-Fetch-Site", "none"), request.headers.get("Sec-Fetch-Mode") == "navigate"
     is_visit = is_visit and request.method == "GET" and request.path in PAGES  # by a link from elsewhere
     if site not in ("same-origin", "none") and not is_visit:
