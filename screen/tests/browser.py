@@ -48,18 +48,14 @@ class Browser:
 
     def resize(self, width: int, height: int) -> None:
         self.width, self.height, is_phone = width, height, width < 500
-        self.tell(
-            "Emulation.setDeviceMetricsOverride", width=width, height=height, deviceScaleFactor=1, mobile=is_phone
-        )
+        size = {"width": width, "height": height, "deviceScaleFactor": 1, "mobile": is_phone}
+        self.tell("Emulation.setDeviceMetricsOverride", **size)
         self.tell("Emulation.setTouchEmulationEnabled", enabled=is_phone)
 
     def media(self, media: str) -> None:
         """Shows pages as for a screen (""), or as for paper ("print")."""
-        self.tell(
-            "Emulation.setEmulatedMedia",
-            media=media,
-            features=[{"name": "prefers-color-scheme", "value": self.scheme}],
-        )
+        features = [{"name": "prefers-color-scheme", "value": self.scheme}]
+        self.tell("Emulation.setEmulatedMedia", media=media, features=features)
 
     def end(self) -> None:
         self.driver.quit()
@@ -211,9 +207,7 @@ class Browser:
 
     def unfold(self, selector: str) -> None:
         """Unfolds all that is folded in an element."""
-        self.script(
-            "document.querySelectorAll(`${arguments[0]} details`).forEach((each) => (each.open = true))", selector
-        )
+        self.script("document.querySelectorAll(`${arguments[0]} details`).forEach((it) => (it.open = true))", selector)
 
     def tap_on(self, words: str) -> None:
         """Taps on a link or a button by its words, once it can be tapped on, as a finger does; by its own clock, so that it is

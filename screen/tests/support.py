@@ -270,9 +270,7 @@ class Screen(Client):
         """The process of the desk that this screen started over the book, and not over a copy of it."""
         children = Path(f"/proc/{self.process.pid}/task/{self.process.pid}/children").read_text().split()
         book = str(self.book.resolve()).encode()
-        return next(
-            int(child) for child in children if book in Path(f"/proc/{child}/cmdline").read_bytes().split(b"\0")
-        )
+        return next(int(each) for each in children if book in Path(f"/proc/{each}/cmdline").read_bytes().split(b"\0"))
 
 
 class Between:

@@ -163,9 +163,7 @@ class Operators(Case):
         page.wait(lambda: page.all("[data-entry='36']"), "the entry")
         for revision, (field, typed) in enumerate((("Position", "close"), ("What", "Withdraw")), 1):
             hand.go("Entry 36")
-            page.wait(
-                lambda: page.all("#detail .sender") and not page.text("#detail .outcome"), "the entry as it is now"
-            )
+            page.wait(lambda: page.all("#detail .sender") and not page.text("#detail .outcome"), "the entry as it is")
             page.says("#detail", f"36, revision {revision}")
             page.says(".forecast", "Change a field")  # nothing that changes nothing is sent
             self.assertFalse(page.find(".send").is_enabled())
@@ -209,9 +207,7 @@ class Operators(Case):
         page.says("#detail", "29, revision 2")
         page.wait(lambda: not page.all(".anew"), "the entry as it is now")
         page.fill("Time (", "2025-04-05 06:45:00")
-        page.wait(
-            lambda: page.find(".send").is_enabled() and "Customer-minutes lost" in page.text(".forecast"), "the button"
-        )
+        page.wait(lambda: page.find(".send").is_enabled() and "minutes lost" in page.text(".forecast"), "the button")
         page.send()
         self.assertEqual(screen.call("/api/entries/29")[1]["revision"], 3)
 
@@ -379,9 +375,7 @@ class Live(Case):
                     self.assertTrue(-1 <= top < top + high <= page.height, (each, top, high))
                 page.script("localStorage.clear(); window.scrollTo(0, 0)")
                 page.click(".alarm summary")  # all of its words
-                words = (
-                    "const words = document.querySelector('.alarm p'); return words.scrollHeight - words.clientHeight"
-                )
+                words = "const it = document.querySelector('.alarm p'); return it.scrollHeight - it.clientHeight"
                 self.assertLessEqual(page.script(words), 1)
                 self.proxy.answer(0)
                 page.quiet()
@@ -587,18 +581,8 @@ class Live(Case):
         page.says(".forecast .reason", "Still cut off: above it CB-1 is open since 20")
 
 
-OLD_WORDS = [
-    "Desk: here",
-    " commands,",
-    "W moves",
-    "moved W",
-    "not told yet",
-    "told anew",
-    "stands",
-    "2025-04-05",
-    "Sheet",
-]
-OLD_WORDS += ["clock of the book's zone", "From that second on", "Another second", "Set its life", "unmarked"]
+OLD_WORDS = ["Desk: here", " commands,", "W moves", "moved W", "not told yet", "told anew", "stands", "2025-04-05"]
+OLD_WORDS += ["clock of the book's zone", "From that second on", "Another second", "Set its life", "unmarked", "Sheet"]
 
 
 class Storm(Case):
@@ -971,16 +955,8 @@ class Crowd(Case):
         chance = random.Random(3)
         for number in range(COMMANDS // 4):
             device, position = chance.choice(["CB-2", "TIE-1", "LBS-11"]), chance.choice(["open", "close"])
-            command = {
-                "kind": "switch",
-                "ref": f"CURL-{number}",
-                "f1": device,
-                "f2": position,
-                "f4": "2",
-                "f5": "CREW-9",
-            }
-            command["f3"] = str(chance.randrange(FIRST, END))
-            data = json.dumps(command)
+            fields = {"f1": device, "f2": position, "f3": str(chance.randrange(FIRST, END)), "f4": "2", "f5": "CREW-9"}
+            data = json.dumps({"kind": "switch", "ref": f"CURL-{number}", **fields})
             support.output_of("curl", "-s", "-S", "--fail", "--data-binary", data, f"{desk.url}/commands")
             if number == COMMANDS // 8:
                 support.call(f"{desk.url}/import", (support.FORTNIGHT_FILES / "corrections.csv").read_bytes())

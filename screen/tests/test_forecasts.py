@@ -80,9 +80,8 @@ class Forecasts(offices.Case):
     def steps(self) -> list[Step]:
         """Some switchings, as the steps of an outage."""
         names = [each.name for each in self.state.devices[:5]]
-        made = (
-            [self.random.choice(names), self.random.choice(["open", "close"]), str(self.moment())] for _ in range(6)
-        )
+        choice = self.random.choice
+        made = ([choice(names), choice(["open", "close"]), str(self.moment())] for _ in range(6))
         return [["switch", *step, "5", "CREW-3"] for step in made][: self.random.randint(2, 6)]
 
     def changes(self) -> list[Step]:

@@ -215,9 +215,7 @@ class Outages(Case):
             page.ready()
             self.forecast(page, 2)
             found = page.script(steps)
-            self.assertEqual(
-                [[device, position] for device, _, position in found], [["cb-1", "close"], ["lbs-11", "open"]]
-            )
+            self.assertEqual([row[::2] for row in found], [["cb-1", "close"], ["lbs-11", "open"]])
             for (_, second, _), (_, minutes_ago, _) in zip(found, STEPS):
                 self.assertIn(self.clock(minutes_ago), second.replace(":", ""))
             self.assertEqual({name: page.value(name) for name in shown}, shown)

@@ -192,9 +192,7 @@ class Reports(support.Case):
             found = [readers.submit(report) for _ in range(8)]
             support.until(calls.exists, what="a report that is being made")
             self.assertEqual(desk.post({**LIGHTHOUSE, "ref": "CURL-1"})[0], 200)
-            support.until(
-                lambda: screen.number() == 103, 2.5, "the command of another client, before the report is made"
-            )
+            support.until(lambda: screen.number() == 103, 2.5, "another client's command, before the report is made")
             self.assertFalse(any(each.done() for each in found))
         self.assertEqual({each.result() for each in found}, {200})
         before = made()

@@ -252,9 +252,8 @@ class LargeStorm(support.Case):
         self.assertEqual(shown, [customers for _, customers in largest])
         longest = max(page.script("return window.tasks"), default=0.0) / 1000
         words = f"{processor:.3f} s of a processor for an outage at most, longest task {longest:.3f} s by the clock"
-        print(
-            f"{page.width} pixels wide: {len(keys)} rows on the first screen, {words} at load {os.getloadavg()[0]:.0f}"
-        )
+        rows = f"{page.width} pixels wide: {len(keys)} rows on the first screen"
+        print(f"{rows}, {words} at load {os.getloadavg()[0]:.0f}")
         # the longest task takes no more of a processor than all together, and no more than its own time by the clock
         self.assertLess(min(processor, longest), LONG_TASK)
         if support.limit(1) == 1:  # else a task waits for other programs
