@@ -63,15 +63,11 @@ def log_view(office: Office, wanted: dict[str, str]) -> list[Json]:
 def sending_view(state: State, sending: Sending) -> Json:
     entry = state.changed.get(sending.number) if sending.number else None
     return {
-        "second": sending.at,
         "at": text(state, sending.at),
-        "login": sending.login,
         "by": sending.login or OTHER,
         "reference": sending.reference,
-        "kind": sending.kind,
         "words": words_of(state, sending),
         "remark": sending.remark,
-        "outcome": sending.outcome,
         "result": result_of(sending, entry),
         "entry": entry,
     }
@@ -130,8 +126,6 @@ async def shift_view(office: Office, wanted: dict[str, str]) -> Json:
     rest = [each for each in sendings if not is_entered(state, each)]
     return {
         "number": state.number,
-        "first": moment(state, state.period.first),
-        "last": moment(state, state.period.end - 1),
         "as_of": moment(state, supply.second),
         "since": moment(state, since),
         "until": moment(state, min(until, int(time.time()))),
@@ -173,19 +167,15 @@ def entered_by(state: State, sendings: Iterable[Sending]) -> dict[int, list[Json
             command = next(each for each in state.histories[entry] if each.number == number)
             by = sending.login or name_in(command.ref) or OTHER
             done = {"what": MADE[command.kind], "at": moment(state, sending.at), "by": by, "no": number}
-            done["remark"] = sending.remark
             if all(each["no"] != number for each in found.setdefault(entry, [])):
-                found[entry].append({**done, "reference": command.ref})
+                found[entry].append({**done, "remark": sending.remark})
     return found
 
 
 def numbers_of(state: State, sending: Sending) -> list[int]:
     """The commands of a sending that made or changed an entry, latest first."""
-    if sending.number is not None:
-        return [sending.number] if sending.number in state.changed else []
-    if sending.commands is None:
-        return []
-    span = range(sending.commands[0], sending.commands[1] + 1)
+    first, last = (sending.number, sending.number) if sending.number is not None else sending.commands or (1, 0)
+    span = range(first, last + 1)
     shorter = span if len(span) < len(state.changed) else state.changed
     return sorted((number for number in shorter if number in span and number in state.changed), reverse=True)
 

@@ -169,7 +169,6 @@ def statuses_of(state: State, entry: Entry, late: Container[int]) -> Json:
 
 
 def entry_view(state: State, entry: Entry, late: Container[int] | None = None) -> Json:
-    history = state.histories.get(entry.number, [])
     return {
         "no": entry.number,
         "revision": entry.revision,
@@ -181,7 +180,7 @@ def entry_view(state: State, entry: Entry, late: Container[int] | None = None) -
         "crew": entry.crew,
         "kept": entry.is_kept,
         **statuses_of(state, entry, state.late_entries() if late is None else late),
-        "commands": [{"no": command.number, "ref": command.ref, "kind": command.kind} for command in history],
+        "reference": reference_of(state, entry.number),
     }
 
 

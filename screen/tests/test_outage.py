@@ -122,7 +122,7 @@ class Outages(Case):
         page.says(".outcome .equal", "As forecast")
         self.assertEqual(page.probe("cutOff"), [])
         self.assertEqual(self.words(), ["CB-2 close", "CB-2 open"])
-        self.assertRegex(self.saved()[0]["commands"][0]["ref"], r"SCR-ANNA-2026_17_[A-Z2-9]{8}")
+        self.assertRegex(self.saved()[0]["reference"], r"SCR-ANNA-2026_17_[A-Z2-9]{8}")
         page.open(f"{self.url}/sheet?entry=2")
         page.says("main table", "2026_17")
         page.says("#detail .remark", "A tree on the line.")
@@ -154,7 +154,7 @@ class Outages(Case):
         page.click(".again-above")
         page.says(".unanswered", "Saved as commands")
         self.assertEqual(self.words(), SENT)
-        references = {row["commands"][0]["ref"] for row in self.saved()}
+        references = {row["reference"] for row in self.saved()}
         self.assertEqual((len(references), len({names.outage_in(each) for each in references})), (len(SENT), 1))
         page.reload()
         self.assertEqual(page.text(".unanswered"), "")

@@ -52,13 +52,13 @@ class Shift(support.Case):
         for reference, crew in (("SCR-LOG-2-A", "LOG-2"), ("SCR-LOG-2-B", "")):
             self.assertEqual(self.live.post({**refused, "f5": crew, "ref": reference})[0], 422)
         one, other = self.get("/api/log", name="log-1"), self.get("/api/log", name="log-2")
-        self.assertEqual([row["login"] for row in one], ["LOG-1"])
-        self.assertEqual([row["outcome"] for row in other], ["refused", "refused", "saved"])
+        self.assertEqual([row["by"] for row in one], ["LOG-1"])
+        self.assertEqual([row["result"].split()[0] for row in other], ["refused:", "refused:", "saved:"])
         self.assertIn("LBS-1 open at ", one[0]["words"])
         self.assertEqual(one[0]["result"], f"saved: command {opened['reply']['no']}, entry {opened['entry']}")
         self.assertEqual([row["result"].split()[1] for row in other[:2]], ["1", "5"])
         self.assertRegex(one[0]["at"], r"\+0[12]:00$")
-        later = one[0]["second"] + 1
+        later = int(datetime.fromisoformat(one[0]["at"]).timestamp()) + 1
         self.assertEqual(self.get("/api/log", since=str(later), name="log-1"), [])
         self.assertEqual(len(self.get("/api/log", until=str(later), name="log-1")), 1)
         self.assertEqual(len(self.get("/api/log", since="today", until="today", name="log-1")), 1)
@@ -78,7 +78,7 @@ class Shift(support.Case):
         self.ours.post({"kind": "switch", "ref": "OMS-77", **fields})
         number = self.live.number() + 1
         support.until(lambda: self.live.number() == number, what="the command of the other program")
-        support.until(lambda: self.get("/api/log")[0]["kind"] == "elsewhere", what="its line of the log")
+        support.until(lambda: self.get("/api/log")[0]["by"] == "another program", what="its line of the log")
         shown = self.get("/api/changes", since=since)
         done = {row["no"]: [(each["what"], each["by"]) for each in row["done"]] for row in shown["entered"]}
         self.assertEqual(done[mine], [("corrected", "NEW-2"), ("entered", "NEW-1")])
@@ -217,9 +217,8 @@ class Stops(support.Case):
         self.assertEqual(desk.post({**closed, "ref": "OMS-1"})[0], 200)
         again = self.screen(desk=desk)
         rows = again.call("/api/log")[1]
-        self.assertEqual([row["kind"] for row in rows], ["elsewhere", "switch"])
-        last = support.LAST_OF_SMALL + 2
-        self.assertEqual((rows[0]["result"], rows[0]["by"]), (f"saved: command {last}", "another program"))
+        self.assertEqual([row["by"] for row in rows], ["another program", "ANNA"])
+        self.assertEqual(rows[0]["result"], f"saved: command {support.LAST_OF_SMALL + 2}")
         self.assertIn("LBS-1 close at ", rows[0]["words"])
         shown = again.call("/api/changes")[1]
         self.assertEqual([row["no"] for row in shown["entered"]], [2, 1])
