@@ -29,6 +29,7 @@ class Case(support.Case):
     browsers: list[browser.Browser] = []
     one: browser.Browser
     other: browser.Browser
+    url: str  # of the screen, or of the proxy before it, where a class has one
 
     @classmethod
     def setUpClass(cls) -> None:
@@ -36,6 +37,11 @@ class Case(support.Case):
         for each in cls.browsers:
             cls.addClassCleanup(each.end)
         cls.one, cls.other = cls.browsers
+
+    def opened(self, route: str, url: str = "") -> browser.Browser:
+        """The first browser, with a page."""
+        self.one.open((url or self.url) + route)
+        return self.one
 
 
 class Finger:
@@ -192,8 +198,7 @@ class Operators(Case):
         """Somebody corrects the entry first, in the moment before the page knows of it."""
         desk = self.desk()
         screen = self.screen(desk=desk)
-        page = self.one
-        page.open(f"{screen.url}/sheet?entry=29")
+        page = self.opened("/sheet?entry=29", screen.url)
         page.says("#detail", "revision 1")
         page.fill("Time (", "2025-04-05 06:45:00")
         page.can_send()
@@ -213,8 +218,7 @@ class Operators(Case):
 
     def test_refusals_and_texts_as_text(self) -> None:
         screen = self.screen()
-        page = self.one
-        page.open(screen.url + LATE)
+        page = self.opened(LATE, screen.url)
         page.says(".forecast", "Customer-minutes lost")
         page.fill("Crew", "Ä <b>x</b>\"'&")
         page.says(".spelling", "A crew has A-Z, 0-9, - and _ alone, and not Ä, a space, <, >, /, \", ', &.")
@@ -231,8 +235,7 @@ class Operators(Case):
         rows = ("section,N1,S1,1,,,,", "device,N2,B1,GRID,S1,closed,,", "connect,N3,1,S1,0,,,", "cause,N4,1,TREE,,,,")
         book = support.new_book("autumn", support.text_of(rows), ("2025-10-20", "14", support.FORTNIGHT[2]))
         screen = self.screen(book=book)
-        page = self.one
-        page.open(f"{screen.url}/enter?device=B1")
+        page = self.opened("/enter?device=B1", screen.url)
         page.fill("Time (", "2025-10-26 02:30:00")
         page.says(".moment", "shows this hour twice")
         self.assertFalse(page.find(".send").is_enabled())
@@ -259,7 +262,6 @@ class Live(Case):
     """A book whose period goes on, behind a proxy: pages that hear of commands, clocks that go, answers that don't come."""
 
     proxy: support.Between
-    url: str
     last = 0  # the second of the last switching of another client
 
     @classmethod
@@ -321,8 +323,7 @@ class Live(Case):
         self.ten("window", "close", "All sections are supplied")
 
     def test_the_window_that_has_the_stream_is_closed(self) -> None:
-        page = self.one
-        page.open(f"{self.url}/")
+        page = self.opened("/")
         first = page.driver.current_window_handle
         second = self.windows(page, "window", [f"{self.url}/"])[0]
         page.says("main", "All sections are supplied")
@@ -334,8 +335,7 @@ class Live(Case):
 
     def test_after_any_answer_a_page_hears_again(self) -> None:
         """What stands before the screen answers 502, 503 or 401 for a while: the page says so, and is current afterwards."""
-        page = self.one
-        page.open(f"{self.url}/")
+        page = self.opened("/")
         page.says("main", "All sections are supplied")
         for number, (status, words) in enumerate({502: "(502)", 503: "(503)", 401: "the login"}.items()):
             self.proxy.answer(status)
@@ -382,16 +382,14 @@ class Live(Case):
 
     def test_a_question_has_a_limit_of_time(self) -> None:
         """A server that says nothing keeps no page waiting."""
-        page = self.one
-        page.open(f"{self.url}/")
+        page = self.opened("/")
         self.stop(self.live.process.pid)
         ask = "return import('/static/common.js').then(({ get }) => get('/api/now', {}, 1)).catch((trouble) => trouble.message)"
         self.assertIn("no answer within 1 seconds", page.script(ask))
 
     def test_a_desk_that_is_stopped_is_told_of(self) -> None:
         """It takes connections and answers nothing: every page says so, also one that sends nothing, until it goes on."""
-        page = self.one
-        page.open(f"{self.url}/")
+        page = self.opened("/")
         go_on = self.stop(self.live.desk_process())
         said = page.says(".alarm", "The desk is away: nothing can be saved now")
         self.assertIn("no answer within 10 seconds", said)
@@ -423,11 +421,10 @@ class Live(Case):
 
     def test_commands_without_an_answer_stay_in_the_head_of_every_page(self) -> None:
         """The desk hangs; the pages that sent are left: the commands are shown until they are answered, and act once."""
-        page = self.one
         self.switch("open")
         entry = self.live.entries()[0]["no"]
         before = self.live.number()
-        page.open(f"{self.url}/sheet?entry={entry}&withdraw=yes")
+        page = self.opened(f"/sheet?entry={entry}&withdraw=yes")
         page.can_send()
         go_on = self.stop(self.live.desk_process())
         page.probe("slowLocks")
@@ -456,8 +453,7 @@ class Live(Case):
         self.assertEqual(page.text(".unanswered"), "")
 
     def test_the_time_is_now_until_one_is_typed(self) -> None:
-        page = self.one
-        page.open(f"{self.url}/enter?device=LBS-1")
+        page = self.opened("/enter?device=LBS-1")
         page.says(".moment", "Now: this clock goes on")
         opened = int(time.time())
         seen = page.value("Time (")
@@ -477,8 +473,7 @@ class Live(Case):
         self.assertEqual(page.value("Time ("), typed)
 
     def test_a_time_to_come_is_asked_about(self) -> None:
-        page = self.one
-        page.open(f"{self.url}/enter?device=LBS-1&at={int(time.time()) + 4 * 3_600}")
+        page = self.opened(f"/enter?device=LBS-1&at={int(time.time()) + 4 * 3_600}")
         page.fill("Cause", "1")
         page.says(".hint", "in the future")
         self.assertFalse(page.find(".send").is_enabled())
@@ -491,8 +486,7 @@ class Live(Case):
         self.live.send(kind="withdraw", f1=str(planned), f2="1")
 
     def test_the_enter_key_sends(self) -> None:
-        page = self.one
-        page.open(f"{self.url}/enter?device=LBS-1&at={self.second()}")
+        page = self.opened(f"/enter?device=LBS-1&at={self.second()}")
         page.says("form", "LBS-1 is closed then")
         page.field("Crew").send_keys(Keys.ENTER)
         page.says(".outcome", "Fill in the fields")
@@ -510,9 +504,8 @@ class Live(Case):
         self.assertEqual(self.live.call(f"/api/entries/{entry}")[1]["crew"], "ANNA-2")
 
     def test_a_search_says_what_it_found(self) -> None:
-        page = self.one
         self.switch("close")
-        page.open(f"{self.url}/sheet")
+        page = self.opened("/sheet")
         page.fill("Section", "0303")
         page.says("main", "no section has 0303 in its name")
         page.click(".clear")
@@ -532,9 +525,8 @@ class Live(Case):
 
     def test_what_was_shown_and_what_it_did(self) -> None:
         """Another's opening comes between the forecast and its sending: that is said first, with a way back."""
-        page = self.one
         at = self.second()
-        page.open(f"{self.url}/enter?device=LBS-1&at={at}")
+        page = self.opened(f"/enter?device=LBS-1&at={at}")
         page.fill("Cause", "1")
         page.says(".forecast", "LOSES supply")
         page.can_send()
@@ -552,9 +544,8 @@ class Live(Case):
         self.assertFalse(self.live.entries()[0]["kept"])
 
     def test_open_outages_are_said_where_they_count_to_the_periods_end(self) -> None:
-        page = self.one
         self.switch("open")
-        page.open(f"{self.url}/year")
+        page = self.opened("/year")
         page.says(".open-outages", "1 outage is open and counts to the period's end")
         shown = [each.get_attribute("class") for each in page.all("main section")]
         self.assertEqual(shown[:2], ["to-now", "whole"])
@@ -572,10 +563,9 @@ class Live(Case):
         page.says(".forecast .open-end", "Counted to the period's end")
 
     def test_a_closing_under_an_open_device_says_why(self) -> None:
-        page = self.one
         self.switch("open")
         self.switch("open", "CB-1")
-        page.open(f"{self.url}/enter?device=LBS-1&at={self.second()}")
+        page = self.opened(f"/enter?device=LBS-1&at={self.second()}")
         page.says("form", "LBS-1 is open then")
         page.says(".forecast", "No section loses or gets back supply")
         page.says(".forecast .reason", "Still cut off: above it CB-1 is open since 20")
@@ -593,6 +583,7 @@ class Storm(Case):
         super().setUpClass()
         book = support.live(cls.__name__, "storm", support.storm_text())
         cls.share(book, "--name", "North <2026>", "--training")
+        cls.url = cls.live.url
         for device, cause in {"LBS-11": 1, "CB-2": 2, "LBS-31": 2, "LBS-34": 1, "LBS-21": 2}.items():
             cls.switch("open", device, cause)
 
@@ -605,8 +596,7 @@ class Storm(Case):
 
     def test_a_row_is_an_outage_and_the_largest_comes_first(self) -> None:
         """What a breaker cut off is one row; what lay without supply before it is that of its own switching."""
-        page = self.one
-        page.open(f"{self.live.url}/")
+        page = self.opened("/")
         page.says("main h2", "4 outages")
         largest = [["CB-2", "19"], ["LBS-34", "7"], ["LBS-31", "4"], ["LBS-11", "2"]]
         self.assertEqual([row[:2] for row in page.probe("outages")], largest)
@@ -622,8 +612,7 @@ class Storm(Case):
         page.says(".forecast", "gets back supply")
 
     def test_a_filter_stands_in_the_address(self) -> None:
-        page = self.one
-        page.open(f"{self.live.url}/")
+        page = self.opened("/")
         page.fill("Feeder", "3")
         page.wait(lambda: self.devices(page) == ["LBS-34", "LBS-31"], "feeder 3")
         page.fill("Cause", "2")
@@ -639,8 +628,7 @@ class Storm(Case):
 
     def test_rows_stay_while_somebody_reads_them(self) -> None:
         """A larger outage comes while a text is selected, or the pointer is on a row: no row moves until that ends."""
-        page = self.one
-        page.open(f"{self.live.url}/?order=newest")
+        page = self.opened("/?order=newest")
         page.wait(lambda: len(self.devices(page)) == 4, "the outages")
         before = page.probe("outages")
         row = page.find("[data-key=entry-1]")
@@ -688,8 +676,7 @@ class Storm(Case):
 
     def test_a_forecast_is_a_few_lines(self) -> None:
         """Sections stand in one list below what happens to them and when; amounts and the reply are folded."""
-        page = self.one
-        page.open(f"{self.live.url}/enter?device=CB-3&at={int(time.time()) - 60}")
+        page = self.opened(f"/enter?device=CB-3&at={int(time.time()) - 60}")
         page.fill("Cause", "2")
         told = page.says(".forecast", "LOSES supply from")
         self.assertEqual(len(page.all(".forecast .group")), 1)
@@ -719,8 +706,7 @@ class Breaks(Case):
         self.addCleanup(proxy.end)
         words = ("--desk", proxy.url)
         first = support.Screen(desk.book, *words)
-        page = self.one
-        page.open(first.url + LATE)
+        page = self.opened(LATE, first.url)
         page.can_send()
         proxy.cuts = 1_000
         page.click(".send")
@@ -824,8 +810,7 @@ class Pages(Case):
 
     def test_a_tie_joins_and_a_day_is_marked(self) -> None:
         screen = self.screen()
-        page = self.one
-        page.open(f"{screen.url}/network")
+        page = self.opened("/network", screen.url)
         page.fill("Name of the new device", "TIE-3")
         page.fill("From node", "MILL-LANE")
         page.fill("To node", "LIGHTHOUSE")
@@ -906,8 +891,7 @@ class Origins(Case):
         threading.Thread(target=server.serve_forever, daemon=True).start()
         self.addCleanup(server.server_close)
         self.addCleanup(server.shutdown)
-        page = self.one
-        page.open(f"{screen.url}/")
+        page = self.opened("/", screen.url)
         screen.log_in("ANNA")
         body = json.dumps({**LIGHTHOUSE, "ref": "SCR-ANNA-1"})
         for host in ("127.0.0.1", "localhost"):  # the same site on another port, and another site

@@ -74,11 +74,10 @@ class Outages(Case):
 
     def test_three_restorations_by_seventy_keys_and_one_send(self) -> None:
         """Meanwhile nobody is shown that it goes on; then it is undone at once."""
-        page = self.one
         self.other.open(f"{self.url}/", "BERT")
         self.other.says("main", "All sections are supplied")
         self.other.record("main")
-        page.open(f"{self.url}/")
+        page = self.opened("/")
         self.press(page, "n")
         page.find(".sender")
         page.ready()
@@ -243,8 +242,7 @@ class Outages(Case):
 
     def test_forms_that_come_back_until_they_are_sent(self) -> None:
         """A correction, a change of the network and a mark; a switching that was sent doesn't come back."""
-        page = self.one
-        page.open(f"{self.url}/enter?device=CB-1")
+        page = self.opened("/enter?device=CB-1")
         page.fill("Cause", "2")
         page.send()
         page.fill("Crew", "SOUTH")
@@ -276,9 +274,8 @@ class Outages(Case):
 
     def test_keys_for_the_whole_page(self) -> None:
         """N and / act where nobody types, and can be turned off."""
-        page = self.one
         nowhere = "document.activeElement.blur()"
-        page.open(f"{self.url}/")
+        page = self.opened("/")
         self.press(page, "/", "n", "/")
         self.assertEqual(page.value("Device, section"), "n/")
         page.open(f"{self.url}/year")

@@ -21,6 +21,7 @@ class Pages(test_browser.Case):
 
     def setUp(self) -> None:
         self.live = self.screen(book=support.live(self.id(), "storm", support.storm_text()), login="BERT")
+        self.url = self.live.url
         self.live.switch("open", "LBS-22", second=int(time.time()) - 600)
 
     def test_a_new_outage_is_said(self) -> None:
@@ -57,8 +58,7 @@ class Pages(test_browser.Case):
 
     def test_a_tab_that_nobody_looks_at(self) -> None:
         """Its title counts what is new; looked at again, it shows that."""
-        page = self.one
-        page.open(f"{self.live.url}/")
+        page = self.opened("/")
         page.probe("turn", True)
         self.live.switch("open", "CB-3")
         page.wait(lambda: page.title.startswith("(1) "), "the number in the title")
@@ -68,8 +68,7 @@ class Pages(test_browser.Case):
 
     def test_quiet_and_a_sentence_at_a_time(self) -> None:
         """In a storm a reader of the screen hears what is new in one sentence for some seconds, and nothing where that is chosen."""
-        page = self.one
-        page.open(f"{self.live.url}/enter")
+        page = self.opened("/enter")
         page.record(".news [role=status]")
         for device in ("CB-1", "LBS-31", "LBS-32", "LBS-33"):
             self.live.switch("open", device)
@@ -104,8 +103,7 @@ class Pages(test_browser.Case):
 
     def test_the_diagram_by_the_keyboard(self) -> None:
         """One stop of the tabulator; arrows along the network, to another feeder, other sizes; rows wait until it is left."""
-        page = self.one
-        page.open(f"{self.live.url}/")
+        page = self.opened("/")
         page.wait(lambda: len(page.all(".diagram a")) == 15, "the diagram")
         self.assertEqual(len(page.all(".diagram a[tabindex='0']")), 1)
         page.script("document.querySelector('.diagram a[tabindex=\"0\"]').focus()")
@@ -137,8 +135,7 @@ class Pages(test_browser.Case):
         self.assertEqual(page.value("Device"), "CB-3")
 
     def test_the_slider_says_its_time(self) -> None:
-        page = self.one
-        page.open(f"{self.live.url}/")
+        page = self.opened("/")
         slider = page.find("[type=range]")
         said = slider.get_attribute("aria-valuetext")
         self.assertEqual(said[:10], time.strftime("%Y-%m-%d", time.gmtime(time.time() + 3_600)))
@@ -169,8 +166,7 @@ class Pages(test_browser.Case):
             self.assertLess(page.probe("place", page.find("main button.main"))[1], 844)  # Print
 
     def test_a_customer_is_found_by_its_number(self) -> None:
-        page = self.one
-        page.open(f"{self.live.url}/network")
+        page = self.opened("/network")
         for number, words in (("7", "Customer 7: section MILL-13"), ("999", "No customer has the number 999")):
             page.fill("Customer's number", number)
             page.field("Customer's number").send_keys(Keys.ENTER)
@@ -180,10 +176,9 @@ class Pages(test_browser.Case):
         self.assertLess(tops[1], page.probe("place", page.find(".sender"))[1])  # the form is last
 
     def test_heads_of_tables_stay_in_sight(self) -> None:
-        page = self.one
         for number in range(30):
             self.live.switch(("close", "open")[number % 2], "LBS-11", second=int(time.time()) - 500 + number)
-        page.open(f"{self.live.url}/sheet")
+        page = self.opened("/sheet")
         page.says("main h2", "31 of 31")
         page.script("scrollTo(0, document.querySelector('tbody tr:nth-child(20)').offsetTop + 300)")
         top, head = (page.probe("place", page.find(each)) for each in (".page-top", "main thead th"))
