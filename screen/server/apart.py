@@ -29,7 +29,7 @@ class Kept:
 
     async def get(self) -> Any:
         while self.making is not None and not self.making.done() and self.of != self.version():
-            await asyncio.wait([self.making])
+            await asyncio.wait([self.making])  # it is of an older version
         if self.making is None or self.of != self.version() or (self.making.done() and self.making.exception()):
             self.of, self.making = self.version(), asyncio.create_task(self.make())
         return await asyncio.shield(self.making)

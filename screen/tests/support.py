@@ -215,9 +215,11 @@ class Client:
             raise AssertionError(shown)
         return shown
 
-    def switch(self, position: str, device: str, cause: int = 1, second: int | None = None, crew: str = "BERT") -> Any:
-        """A switching, now or at a second: what the page is told."""
-        at = str(second or int(time.time()))
+    def switch(
+        self, position: str, device: str, cause: int = 1, second: int = 0, ago: int = 0, crew: str = "BERT"
+    ) -> Any:
+        """A switching, some seconds ago or at a second: what the page is told."""
+        at = str(second or int(time.time()) - ago)
         return self.send(kind="switch", f1=device, f2=position, f3=at, f4=str(cause), f5=crew)
 
     def entries(self) -> list[Any]:

@@ -585,11 +585,7 @@ class Storm(Case):
         cls.share(book, "--name", "North <2026>", "--training")
         cls.url = cls.live.url
         for device, cause in {"LBS-11": 1, "CB-2": 2, "LBS-31": 2, "LBS-34": 1, "LBS-21": 2}.items():
-            cls.switch("open", device, cause)
-
-    @classmethod
-    def switch(cls, position: str, device: str, cause: int = 1, seconds_back: int = 600) -> None:
-        cls.live.switch(position, device, cause, int(time.time()) - seconds_back)
+            cls.live.switch("open", device, cause, ago=600)
 
     def devices(self, page: browser.Browser) -> list[str]:
         return [row[0] for row in page.probe("outages")]
@@ -633,8 +629,8 @@ class Storm(Case):
         before = page.probe("outages")
         row = page.find("[data-key=entry-1]")
         page.script("arguments[0].mark = 'mine'; getSelection().selectAllChildren(arguments[0].cells[0]);", row)
-        self.addCleanup(self.switch, "close", "CB-1", 1, 1)
-        self.switch("open", "CB-1", 1, 2)
+        self.addCleanup(self.live.switch, "close", "CB-1", ago=1)
+        self.live.switch("open", "CB-1", ago=2)
         page.wait(lambda: len(self.devices(page)) == 5, "the new one")
         self.assertEqual(page.probe("outages")[:4], before)
         self.assertTrue(page.script("return String(getSelection()).trim() === 'LBS-11'"))
@@ -643,7 +639,7 @@ class Storm(Case):
         self.assertEqual(page.script("return document.querySelector('[data-key=entry-1]').mark"), "mine")
         page.point_at(page.find("[data-key=entry-1]"))
         before = page.probe("outages")
-        self.switch("close", "CB-1", 1, 1)
+        self.live.switch("close", "CB-1", ago=1)
         page.says("[data-key] .no-print:last-child", "supplied again")
         self.assertEqual([row[3] for row in page.probe("outages")], [row[3] for row in before])
         page.point_at(page.find("h1"))

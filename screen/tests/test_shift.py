@@ -33,7 +33,7 @@ class Shift(support.Case):
 
     def switch(self, login: str, position: str, device: str = "LBS-1", ago: int = 5) -> Any:
         self.live.log_in(login)
-        return self.live.switch(position, device, second=int(time.time()) - ago, crew=login)
+        return self.live.switch(position, device, ago=ago, crew=login)
 
     def get(self, route: str, **query: str) -> Any:
         status, shown = self.live.call(f"{route}?{urllib.parse.urlencode(query)}")
@@ -145,7 +145,7 @@ class Pages(support.Case):
         cls.page = browser.Browser()
         cls.addClassCleanup(cls.page.end)
         for position in ("open", "close"):
-            cls.live.switch(position, "LBS-1", second=int(time.time()) - 60)
+            cls.live.switch(position, "LBS-1", ago=60)
 
     def test_a_search_is_kept_by_the_address(self) -> None:
         """By loading the page again, by Back, and by a link to somebody else."""
@@ -210,7 +210,7 @@ class Stops(support.Case):
         desk = self.desk(support.live("stopped"))
         screen = support.Screen(desk.book, desk=desk)
         screen.log_in("ANNA")
-        screen.switch("open", "LBS-1", second=int(time.time()) - 50)
+        screen.switch("open", "LBS-1", ago=50)
         screen.end()
         closed = {"kind": "switch", "f1": "LBS-1", "f2": "close", "f4": "1", "f5": "ANNA"}
         closed["f3"] = str(int(time.time()) - 5)

@@ -22,7 +22,7 @@ class Pages(test_browser.Case):
     def setUp(self) -> None:
         self.live = self.screen(book=support.live(self.id(), "storm", support.storm_text()), login="BERT")
         self.url = self.live.url
-        self.live.switch("open", "LBS-22", second=int(time.time()) - 600)
+        self.live.switch("open", "LBS-22", ago=600)
 
     def test_a_new_outage_is_said(self) -> None:
         """Where, who, and how many customers: in the page's top, in the tab's title and in a list, and a click leads to its row."""
@@ -144,7 +144,7 @@ class Pages(test_browser.Case):
 
     def test_three_questions_by_what_the_page_says(self) -> None:
         """Who is out on feeder 3, what happened yesterday, hand over: by words that stand there, three taps each at most."""
-        self.live.switch("open", "LBS-31", second=int(time.time()) - 86_400)
+        self.live.switch("open", "LBS-31", ago=86_400)
         for page in self.browsers:
             narrow = page is self.other
             page.open(f"{self.live.url}/")
@@ -177,7 +177,7 @@ class Pages(test_browser.Case):
 
     def test_heads_of_tables_stay_in_sight(self) -> None:
         for number in range(30):
-            self.live.switch(("close", "open")[number % 2], "LBS-11", second=int(time.time()) - 500 + number)
+            self.live.switch(("close", "open")[number % 2], "LBS-11", ago=500 - number)
         page = self.opened("/sheet")
         page.says("main h2", "31 of 31")
         page.script("scrollTo(0, document.querySelector('tbody tr:nth-child(20)').offsetTop + 300)")
@@ -199,7 +199,7 @@ class LargeStorm(support.Case):
     def setUp(self) -> None:
         book = support.live(self.id(), "large-storm", support.storm_text(20, 7, 7))
         self.live = self.screen(book=book, login="BERT")
-        self.live.switch("open", "LBS-11-2", second=int(time.time()) - 600)
+        self.live.switch("open", "LBS-11-2", ago=600)
         self.pages = [browser.Browser(*size) for size in SIZES]
         for page in self.pages:
             self.addCleanup(page.end)
