@@ -4,7 +4,6 @@ and the copy that follows the desk answers as it does."""
 import os
 import random
 import unittest.mock
-from collections.abc import Callable
 from typing import Any
 
 import offices
@@ -51,17 +50,17 @@ class Forecasts(offices.Case):
         action, cause = self.random.choice(["open", "close"]), str(self.random.randint(1, 8))
         ends = [node[0] for node in self.random.sample(self.state.nodes, 2)]
         sections = [name for name, kind, _ in self.state.nodes if kind == 2]
-        makers: dict[str, Callable[[], list[str]]] = {
-            "switch": lambda: [device, action, str(self.moment()), cause, "CREW-1"],
-            "correct": lambda: [*self.any_entry(), action, str(self.moment()), cause, "CREW-2"],
-            "withdraw": lambda: [*self.any_entry()],
-            "life": lambda: [device, *self.life()],
-            "device": lambda: [f"D-{number}", *ends, self.random.choice(["open", "closed"]), *self.life()],
-            "section": lambda: [f"S-{number}", str(self.random.randint(1, 3))],
-            "connect": lambda: [str(number + 1), self.random.choice(sections), *self.life()],
-            "revise": lambda: [str(self.random.choice(list(self.state.customers))), *self.life()],
+        fields = {
+            "switch": [device, action, str(self.moment()), cause, "CREW-1"],
+            "correct": [*self.any_entry(), action, str(self.moment()), cause, "CREW-2"],
+            "withdraw": [*self.any_entry()],
+            "life": [device, *self.life()],
+            "device": [f"D-{number}", *ends, self.random.choice(["open", "closed"]), *self.life()],
+            "section": [f"S-{number}", str(self.random.randint(1, 3))],
+            "connect": [str(number + 1), self.random.choice(sections), *self.life()],
+            "revise": [str(self.random.choice(list(self.state.customers))), *self.life()],
         }
-        return kind, makers[kind]()
+        return kind, fields[kind]
 
     async def forecast(self, kind: str, fields: Step) -> dict[str, Any] | None:
         try:
