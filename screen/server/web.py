@@ -271,7 +271,7 @@ def shows(view: Callable[[Office, Query], Any]) -> Handler:
     """A route that shows something by what is asked for."""
 
     async def show(request: web.Request) -> web.StreamResponse:
-        found = view(office_of(request), dict(request.query))
+        found = view(office_of(request), {**request.query, **request.match_info})
         return answer(200, await found if isawaitable(found) else found)
 
     return show
@@ -328,21 +328,20 @@ async def forecast(office: Office, query: Query) -> Json:
     return await forecasts.forecast(office, query.get("kind", ""), fields_of(query))
 
 
-def entry_number(request: web.Request) -> int:
-    number = int(request.match_info["no"])
-    if not 1 <= number <= len(office_of(request).state.entries):
+def entry_number(office: Office, query: Query) -> int:
+    if not 1 <= int(query["no"]) <= len(office.state.entries):
         raise web.HTTPNotFound()
-    return number
+    return int(query["no"])
 
 
-async def outage_of(request: web.Request) -> web.StreamResponse:
+def outage_of(office: Office, query: Query) -> Json:
     """The entries of the outage that an entry belongs to."""
-    return answer(200, outage.outage_view(office_of(request).state, entry_number(request)))
+    return outage.outage_view(office.state, entry_number(office, query))
 
 
-async def entry(request: web.Request) -> web.StreamResponse:
+async def entry(office: Office, query: Query) -> Json:
     """An entry with its commands and the moves of each, in the desk's own words."""
-    office, number = office_of(request), entry_number(request)
+    number = entry_number(office, query)
     shown = views.entry_view(office.state, office.state.entries[number - 1])
     shown["history"] = []
     is_away = False
@@ -354,7 +353,7 @@ async def entry(request: web.Request) -> web.StreamResponse:
             is_away = True  # the entry is shown all the same, and the desk isn't waited for again
         remark = office.journal.remark_of(command.ref)
         shown["history"].append({**views.history_view(office.state, command), "text": text, "remark": remark})
-    return answer(200, shown)
+    return shown
 
 
 async def command(request: web.Request) -> web.StreamResponse:
@@ -384,31 +383,25 @@ async def rows(request: web.Request) -> web.StreamResponse:
 # The year.
 
 
-async def whole(request: web.Request, name: str, make: Callable[[], Coroutine[Any, Any, Any]]) -> Any:
+async def whole(office: Office, name: str, make: Callable[[], Coroutine[Any, Any, Any]]) -> Any:
     """Something that is made of the whole book: one at a time, and kept until the book has another command."""
-    office = office_of(request)
     return await office.kept.setdefault(name, Kept(lambda: office.state.number, make)).get()
 
 
-async def table_text(request: web.Request) -> str:
-    return str(await whole(request, "table", partial(office_of(request).words_of, "/table")))
+async def table_text(office: Office) -> str:
+    return await whole(office, "table", partial(office.words_of, "/table")) or ""
 
 
-async def table(request: web.Request) -> web.StreamResponse:
-    text = await table_text(request)
-    return answer(200, {**year.table_view(text), **await to_now_view(office_of(request))})
+async def table(office: Office, _: Query) -> Json:
+    return {**year.table_view(await table_text(office)), **await to_now_view(office)}
 
 
 async def download(request: web.Request) -> web.StreamResponse:
     office, program, name = office_of(request), settings_of(request).program, request.match_info["name"]
     if name == "table.txt":
-        data = (await table_text(request)).encode()
-    elif name == "commands.csv":
-        data = await office.tables.run(year.commands_csv, program, office.book)
-    elif name == "moves.csv":
-        data = await office.tables.run(year.moves_csv, program, office.book)
+        data = (await table_text(office)).encode()
     else:
-        raise web.HTTPNotFound()
+        data = await office.tables.run(year.TEXTS[name], program, office.book)
     kind = "text/csv" if name.endswith(".csv") else "text/plain"
     headers = {"Content-Disposition": f"attachment; filename={name}"}
     return web.Response(body=data, content_type=kind, charset="utf-8", headers=headers)
@@ -417,7 +410,7 @@ async def download(request: web.Request) -> web.StreamResponse:
 async def report(request: web.Request) -> web.StreamResponse:
     """The printed report. Its style stands in the page, so the policy names just that by its hash."""
     office, program = office_of(request), settings_of(request).program
-    data = await whole(request, "report", partial(office.reports.run, year.report_page, program, office.book))
+    data = await whole(office, "report", partial(office.reports.run, year.report_page, program, office.book))
     styles = re.findall(rb"<style>(.*?)</style>", data, re.S)
     hashes = " ".join(f"'sha256-{base64.b64encode(hashlib.sha256(style).digest()).decode()}'" for style in styles)
     headers = {"Content-Security-Policy": f"default-src 'none'; style-src {hashes}; frame-ancestors 'none'"}
@@ -458,15 +451,15 @@ GETS: dict[str, Handler] = {
     r"/static/{name:[a-z]+\.(js|css|svg)}": static,
     "/events": events,
     "/report": report,
-    "/download/{name}": download,
+    r"/download/{name:table\.txt|commands\.csv|moves\.csv}": download,
     "/api/me": me,
     "/api/book": shows(lambda office, _: views.book_view(office.state)),
     "/api/second": shows(second),
     "/api/now": shows(now),
     "/api/news": shows(lambda office, _: list(office.news)),  # the outages that began last, as this server has seen it
     "/api/sheet": shows(sheet),
-    r"/api/entries/{no:\d{1,6}}": entry,
-    r"/api/outages/{no:\d{1,6}}": outage_of,
+    r"/api/entries/{no:\d{1,6}}": shows(entry),
+    r"/api/outages/{no:\d{1,6}}": shows(outage_of),
     "/api/moment": shows(moment),
     "/api/position": shows(position),
     "/api/forecast": shows(forecast),
@@ -474,7 +467,7 @@ GETS: dict[str, Handler] = {
     "/api/log": shows(shift.log_view),
     "/api/changes": shows(shift.shift_view),
     "/api/marks": shows(lambda office, _: shift.marks_view(office)),
-    "/api/year": table,
+    "/api/year": shows(table),
 }
 POSTS: dict[str, Handler] = {"/api/name": give_name, "/api/command": command, "/api/import": rows}
 

@@ -53,6 +53,9 @@ def commands_csv(program: str, book: Path) -> bytes:
     return run([*tool_words("commands"), str(book), "--program", program])
 
 
+TEXTS = {"commands.csv": commands_csv, "moves.csv": moves_csv}  # by the names under which they are downloaded
+
+
 def report_page(program: str, book: Path) -> bytes:
     with tempfile.TemporaryDirectory(prefix="screen-") as folder:
         output = Path(folder) / "report.html"
