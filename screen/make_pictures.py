@@ -6,8 +6,6 @@
 Wants what the screen's tests want. The pictures are WebP, so that they are small.
 """
 
-from __future__ import annotations
-
 import base64
 import sys
 from pathlib import Path

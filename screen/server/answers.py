@@ -1,19 +1,16 @@
 """What the desk answers to questions that change nothing: the supply at a second, and the plan of a command."""
 
-from __future__ import annotations
-
 import json
 from collections.abc import Sequence
 from dataclasses import dataclass
 from typing import Any
 
+from .commands import members_of
 from .desk import Answer, Away
 from .reader import Moves
 from .state import Refused
 
-Interval = tuple[
-    int, int, int
-]  # seconds without supply, from one up to another, and the entry that cut off (0: none did)
+Interval = tuple[int, int, int]  # seconds without supply, from one up to another; the entry that cut off (0: none did)
 
 
 @dataclass(frozen=True)
@@ -66,8 +63,8 @@ class NotPlanned(Exception):
 
 def command_body(kind: str, fields: Sequence[str], ref: str = "") -> bytes:
     """A command as the desk reads it; an end that is none is left out."""
-    told = {f"f{place}": text for place, text in enumerate(fields, 1) if text not in ("", "-")}
-    return json.dumps({"kind": kind, **({"ref": ref} if ref else {}), **told}).encode()
+    told = members_of(kind, fields) | {"ref": ref}
+    return json.dumps({name: text for name, text in told.items() if text not in ("", "-")}).encode()
 
 
 def moves_in(reply: dict[str, Any]) -> Moves:
@@ -78,14 +75,9 @@ def supply_in(answer: Answer) -> Supply:
     if answer.status == 404:
         raise Refused("the second lies outside the book's period")
     told = answer.json()
-    outages = [outage_in(row) for row in told["sections"]]
+    outages = [Outage(**(row | {"entry": row["entry"] or 0})) for row in told["sections"]]
     closed = {row["device"]: row["position"] == "closed" for row in told["devices"]}
     return Supply(told["second"], outages, closed, {row["device"]: row["alive"] for row in told["devices"]})
-
-
-def outage_in(row: dict[str, Any]) -> Outage:
-    told: dict[str, Any] = {**row, "entry": row["entry"] or 0}
-    return Outage(**told)
 
 
 def plan_in(answer: Answer) -> Plan:

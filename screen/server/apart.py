@@ -1,9 +1,7 @@
 """Work that takes its time, off the loop: each kind of it has a thread of its own, so that none waits for another kind."""
 
-from __future__ import annotations
-
 import asyncio
-from collections.abc import Awaitable, Callable
+from collections.abc import Callable, Coroutine
 from concurrent.futures import ThreadPoolExecutor
 from typing import Any, TypeVar
 
@@ -24,26 +22,14 @@ class Kept:
     """What is made of the whole book: once for all who ask for it, until the book has another command. Who asks while it is
     being made gets that one, or its failure."""
 
-    def __init__(self, version: Callable[[], object], make: Callable[[], Awaitable[Any]]):
+    def __init__(self, version: Callable[[], object], make: Callable[[], Coroutine[Any, Any, Any]]):
         self.version, self.make = version, make
-        self.order = asyncio.Lock()
         self.of: object = None
-        self.made: Any = None
-        self.failures = 0
-        self.failure: Exception = RuntimeError("nothing has failed")
+        self.making: asyncio.Task[Any] | None = None
 
     async def get(self) -> Any:
-        failures = self.failures
-        async with self.order:
-            version = self.version()
-            if self.of == version:
-                return self.made
-            if self.failures > failures:
-                raise self.failure
-            try:
-                self.made = await self.make()
-            except Exception as failure:
-                self.failures, self.failure = self.failures + 1, failure
-                raise
-            self.of = version
-            return self.made
+        while self.making is not None and not self.making.done() and self.of != self.version():
+            await asyncio.wait([self.making])  # it is of an older version
+        if self.making is None or self.of != self.version() or (self.making.done() and self.making.exception()):
+            self.of, self.making = self.version(), asyncio.create_task(self.make())
+        return await asyncio.shield(self.making)

@@ -1,7 +1,5 @@
 """The desk as the screen's server speaks to it: one request at a time, each over a connection of its own that is closed."""
 
-from __future__ import annotations
-
 import asyncio
 import ctypes
 import json
@@ -113,6 +111,12 @@ class OwnDesk:
         self.process: asyncio.subprocess.Process | None = None
         self.is_final = False
         self.first_start: asyncio.Future[str | None] = asyncio.get_running_loop().create_future()
+        self.keeping = asyncio.create_task(self.keep())
+
+    async def begun(self) -> None:
+        """Waits for the first start, and raises why it failed."""
+        if why := await self.first_start:
+            raise Away(why)
 
     async def keep(self) -> None:
         """Starts the desk, and again each time it has ended."""
@@ -131,9 +135,8 @@ class OwnDesk:
         pipe = asyncio.subprocess.PIPE
         self.process = None
         try:
-            self.process = await asyncio.create_subprocess_exec(
-                *words, stdout=pipe, stderr=pipe, preexec_fn=end_with_parent
-            )
+            starting = asyncio.create_subprocess_exec(*words, stdout=pipe, stderr=pipe, preexec_fn=end_with_parent)
+            self.process = await starting
         except OSError as error:
             self.is_final = True
             return f"the program {self.program} can't be run: {error.strerror}"
@@ -155,6 +158,8 @@ class OwnDesk:
         """The desk takes requests from now on."""
 
     async def end(self) -> None:
+        self.keeping.cancel()
         if self.process is not None and self.process.returncode is None:
             self.process.terminate()
             await self.process.wait()
+        await asyncio.gather(self.keeping, return_exceptions=True)

@@ -5,8 +5,6 @@ What was tried leaves the copy's entries with other numbers and revisions than t
 withdrawn again, a correction is corrected back, and a withdrawal is tried as a correction to the period's first second and the
 position that the device has there anyway: the entry acts as if it were withdrawn, and is corrected back."""
 
-from __future__ import annotations
-
 import asyncio
 import os
 import secrets
@@ -76,9 +74,7 @@ class DeskCopy(OwnDesk):
         self.later: deque[tuple[Command, Moves]] = deque(maxlen=MOST_LATER)
         self.entries: list[int] = []  # the copy's number of each of the book's entries
         self.numbers: dict[int, int] = {}  # the book's number of each of these
-        self.changes: deque[tuple[int, list[SectionChange]]] = deque(
-            maxlen=MOST_LATER
-        )  # by the commands that it followed
+        self.changes: deque[tuple[int, list[SectionChange]]] = deque(maxlen=MOST_LATER)  # by the commands it followed
         self.made = 0  # entries that the copy has
         self.revisions: Counter[int] = Counter()  # by how many the copy's revision of an entry is later
 

@@ -1,7 +1,5 @@
 """The one-line diagram: where each node stands, by layers from GRID over devices that are normally closed; what has supply."""
 
-from __future__ import annotations
-
 from collections.abc import Sequence
 from dataclasses import dataclass
 

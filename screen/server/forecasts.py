@@ -1,13 +1,10 @@
 """What a page shows of what a command would do: the desk's plan, with the sections that lose or get back supply, what a person
 should know who enters it, and why a closing gives nobody back supply."""
 
-from __future__ import annotations
-
 from collections.abc import Iterable, Mapping, Sequence
 
 from .answers import Interval, NotPlanned, Plan, Supply
 from .commands import FIELDS
-from .moments import duration
 from .office import Office
 from .reader import Moves
 from .reasons import still_cut_off
@@ -33,7 +30,6 @@ async def forecast(office: Office, kind: str, fields: Sequence[str]) -> Json:
     supply = None if second is None else await office.supply(second)
     shown = forecast_view(office.state, kind, fields, planned.moves, changes_of([planned]))
     shown |= notes_of(office.state, kind, fields, supply, bool(shown["sections"]))
-    shown["hints"] += late_hints(kind, -ahead_of(office.state, second))
     if kind in ("mark", "unmark"):
         shown["unmarked"] = await marks_view(office, kind, fields)
         shown["hints"] += [] if shown["unmarked"] else [NO_COPY]
@@ -42,8 +38,7 @@ async def forecast(office: Office, kind: str, fields: Sequence[str]) -> Json:
 
 def refusal_words(state: State, kind: str, fields: Sequence[str], refused: NotPlanned) -> str:
     """Why the desk wouldn't take a command, as a part of a sentence."""
-    told = {f"f{place}": text for place, text in enumerate(fields, 1)}
-    words = words_of(state, {"kind": kind, **told}, refused.reply)
+    words = words_of(state, kind, fields, refused.reply)
     return words[0].lower() + words[1:].removesuffix(".")
 
 
@@ -51,10 +46,6 @@ def second_of(kind: str, fields: Sequence[str]) -> int | None:
     """The second at which an entry acts that is made or changed."""
     text = fields[-3] if kind in ("switch", "correct") else ""
     return int(text) if text.isdecimal() else None
-
-
-def ahead_of(state: State, second: int | None) -> int:
-    return 0 if second is None else second - state.now()
 
 
 def changes_of(plans: Iterable[Plan]) -> Changes:
@@ -67,7 +58,8 @@ def changes_of(plans: Iterable[Plan]) -> Changes:
 
 
 def forecast_view(state: State, kind: str, fields: Sequence[str], moves: Moves, changes: Changes) -> Json:
-    ahead = ahead_of(state, second_of(kind, fields))
+    second = second_of(kind, fields)
+    ahead = 0 if second is None else second - state.now()
     return {
         "number": state.number,
         "sections": sections_of(state, changes),
@@ -77,7 +69,8 @@ def forecast_view(state: State, kind: str, fields: Sequence[str], moves: Moves, 
         "reason": None,
         "is_live": is_live(state),
         "unmarked": None,
-        "future": duration(ahead) if ahead > FUTURE_SECONDS else None,
+        "future": ahead if ahead > FUTURE_SECONDS else 0,
+        "late": -ahead if kind == "switch" and -ahead > LATE_SECONDS else 0,
         "words": command_words(state, kind, fields),
     }
 
@@ -126,19 +119,9 @@ def notes_of(state: State, kind: str, fields: Sequence[str], supply: Supply | No
     device = state.device_numbers[fields[0]] if is_switch else state.entries[int(fields[0]) - 1].device
     name, hints = state.devices[device].name, []
     if is_switch and not supply.alive[name]:
-        hints.append(
-            f"{name} isn't in the network at that second: the entry acts from the beginning of a later life on."
-        )
+        hints.append(f"{name} isn't in the network at that second: the entry acts from the start of a later life on.")
     if is_switch and supply.closed[name] == closes:
         hints.append(f"{name} is {'closed' if closes else 'open'} at that second already.")
     entry = len(state.entries) + 1 if is_switch else int(fields[0])
     reason = still_cut_off(state, supply, device, entry) if closes and not changes_supply else None
     return {"hints": hints, "reason": reason}
-
-
-def late_hints(kind: str, behind: int) -> list[str]:
-    return (
-        [f"This is a late entry: it lies {duration(behind)} back."]
-        if kind == "switch" and behind > LATE_SECONDS
-        else []
-    )

@@ -4,8 +4,6 @@ Each connection has one request. A connection that says nothing, or half of some
 that doesn't read what it is sent; one whose head is too long is told so. The web server behind it sees whole heads alone.
 """
 
-from __future__ import annotations
-
 import asyncio
 import re
 from dataclasses import dataclass
@@ -37,42 +35,34 @@ class Guard(asyncio.Protocol):
     """A connection: its head is gathered, then handed on with what follows."""
 
     open_connections = 0
+    transport: asyncio.Transport
+    timer: asyncio.TimerHandle  # for the head, then for the body
 
     def __init__(self, inner: asyncio.Protocol, limits: Limits):
-        self.inner = inner
-        self.limits = limits
+        self.inner, self.limits = inner, limits
         self.head = b""
-        self.is_whole = False
-        self.left = 0
-        self.timer: asyncio.TimerHandle | None = None
+        self.is_whole = False  # the head: what is behind the guard knows of the connection
+        self.left = 0  # bytes of the body
         self.unread: asyncio.TimerHandle | None = None
-        self.transport: asyncio.Transport | None = None
-        self.is_connected = False
 
     def connection_made(self, transport: asyncio.BaseTransport) -> None:
         self.transport = cast(asyncio.Transport, transport)
         self.transport.set_write_buffer_limits(0)  # so that each byte that isn't taken at once is told
+        self.timer = asyncio.get_running_loop().call_later(self.limits.head, self._too_late)
         Guard.open_connections += 1
         if Guard.open_connections > MOST_CONNECTIONS:
             self._close(refusal("503 Service Unavailable"))
-            return
-        self._wait(self.limits.head)
-
-    def _wait(self, seconds: float) -> None:
-        if self.timer is not None:
-            self.timer.cancel()
-        self.timer = asyncio.get_running_loop().call_later(seconds, self._too_late)
 
     def _too_late(self) -> None:
         self._close(refusal("408 Request Timeout") if self.head or self.is_whole else b"")
 
     def _close(self, last: bytes) -> None:
-        if self.transport is not None and not self.transport.is_closing():
+        if not self.transport.is_closing():
             self.transport.write(last)
             self.transport.close()
 
     def data_received(self, data: bytes) -> None:
-        if self.transport is None or self.transport.is_closing():
+        if self.transport.is_closing():
             return
         if self.is_whole:
             self._hand_on(data)
@@ -88,23 +78,16 @@ class Guard(asyncio.Protocol):
         """The head is whole: what the body may have is counted from here on."""
         head, rest, self.head = self.head[:length], self.head[length:], b""
         told = self._told_length(head)
-        if told is None:
-            self._close(refusal("400 Bad Request"))
-            return
-        if told > BODY_BYTES:
-            self._close(refusal("413 Payload Too Large"))
+        if told is None or told > BODY_BYTES:
+            self._close(refusal("400 Bad Request" if told is None else "413 Payload Too Large"))
             return
         self.is_whole, self.left = True, told
-        assert self.transport is not None
-        self.inner.connection_made(self.transport)
-        self.is_connected = True
-        self.inner.data_received(head)
+        self.timer.cancel()
         if told:
-            self._wait(self.limits.body)
-        elif self.timer is not None:
-            self.timer.cancel()
-        if rest:
-            self._hand_on(rest)
+            self.timer = asyncio.get_running_loop().call_later(self.limits.body, self._too_late)
+        self.inner.connection_made(self.transport)
+        self.inner.data_received(head)
+        self._hand_on(rest)
 
     def _told_length(self, head: bytes) -> int | None:
         """The length of the body by Content-Length; None where the head isn't one that is taken."""
@@ -124,28 +107,27 @@ class Guard(asyncio.Protocol):
         part, self.left = data[: self.left], self.left - min(len(data), self.left)
         if part:
             self.inner.data_received(part)
-            if self.left == 0 and self.timer is not None:
-                self.timer.cancel()
+        if not self.left:
+            self.timer.cancel()
 
     def eof_received(self) -> bool | None:
-        return self.inner.eof_received() if self.is_connected else False
+        return self.inner.eof_received() if self.is_whole else False
 
     def connection_lost(self, error: Exception | None) -> None:
         Guard.open_connections -= 1
-        for timer in (self.timer, self.unread):
-            if timer is not None:
-                timer.cancel()
-        if self.is_connected:
+        self.timer.cancel()
+        if self.unread is not None:
+            self.unread.cancel()
+        if self.is_whole:
             self.inner.connection_lost(error)
 
     def pause_writing(self) -> None:
-        assert self.transport is not None
         self.unread = asyncio.get_running_loop().call_later(self.limits.reading, self.transport.abort)
-        if self.is_connected:
+        if self.is_whole:
             self.inner.pause_writing()
 
     def resume_writing(self) -> None:
         if self.unread is not None:
             self.unread.cancel()
-        if self.is_connected:
+        if self.is_whole:
             self.inner.resume_writing()

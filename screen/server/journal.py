@@ -1,18 +1,18 @@
 """The screen's own log: who sent what under which reference, when, and what was answered. Append only, a JSON object a line."""
 
-from __future__ import annotations
-
 import json
 import os
-from collections.abc import Iterator
+from collections.abc import Iterator, Sequence
+from contextlib import suppress
 from dataclasses import dataclass
 from datetime import datetime, timezone
+from functools import partial
 from pathlib import Path
 from typing import Any
 
+from .commands import fields_of
 from .names import Names, folded, name_in
 
-MOST_FIELDS = 6
 IMPORT, ELSEWHERE = "import", "elsewhere"  # kinds of sendings beside those of commands
 
 
@@ -24,7 +24,7 @@ class Sending:
     login: str
     reference: str
     kind: str
-    fields: tuple[str, ...] = ()
+    fields: Sequence[str] = ()
     outcome: str = "unanswered"  # or saved, refused
     number: int | None = None  # of the command, once it is saved
     remark: str = ""
@@ -50,19 +50,18 @@ class Journal:
 
     def _remember(self, line: str) -> None:
         """A line that was cut off by a loss of power is left out of what pages show; the file keeps it."""
-        try:
+        with suppress(ValueError, TypeError, LookupError):
             row = json.loads(line)
             if isinstance(row, dict):
                 self._keep(row)
-        except (ValueError, TypeError, LookupError):
-            pass
 
     def _keep(self, row: dict[str, Any]) -> None:
         at, login, reference = second_of(row), str(row.get("login", "")), str(row.get("reference", ""))
         sent, commands = row.get("sent"), numbers_of(row.get("commands"))
         if isinstance(sent, dict):
-            fields = tuple(str(sent.get(f"f{place}", "")) for place in range(1, MOST_FIELDS + 1))
-            sending = Sending(at, login, reference, str(sent.get("kind")), fields, remark=str(row.get("remark", "")))
+            told = {name: str(text) for name, text in sent.items()}
+            kind, fields, remark = told.get("kind", ""), fields_of(told), str(row.get("remark", ""))
+            sending = Sending(at, login, reference, kind, fields, remark=remark)
             self.sendings.append(sending)
             self.open[login, reference] = sending
             if reference:
@@ -90,12 +89,8 @@ class Journal:
         self._keep(row)
         if self.path is None:
             return
-        data = (json.dumps(row) + "\n").encode()
-        place = os.open(self.path, os.O_WRONLY | os.O_APPEND | os.O_CREAT, 0o600)
-        try:
-            os.write(place, data)
-        finally:
-            os.close(place)
+        with open(self.path, "ab", buffering=0, opener=partial(os.open, mode=0o600)) as file:
+            file.write((json.dumps(row) + "\n").encode())
 
     def between(self, since: int, until: int, part: str = "") -> Iterator[Sending]:
         """What was sent from one second up to another, latest first, by whoever has a text in the name."""

@@ -1,14 +1,15 @@
 """The command `outagebook-screen`: its words, and the run of the server."""
 
-from __future__ import annotations
-
 import argparse
 import asyncio
 import logging
 import resource
 import signal
 import sys
+from collections.abc import AsyncIterator, Coroutine
+from contextlib import AsyncExitStack, asynccontextmanager
 from pathlib import Path
+from typing import Any
 
 from aiohttp import web
 
@@ -36,14 +37,10 @@ def seconds(text: str) -> float:
 
 
 def read_words() -> argparse.Namespace:
-    words = Parser(
-        prog="outagebook-screen", description="The screen of an outage book's desk, for browsers on 127.0.0.1."
-    )
+    words = Parser(prog="outagebook-screen", description="The screen of an outage book, for browsers on 127.0.0.1.")
     words.add_argument("--book", metavar="FILE", type=Path, required=True, help="the book that the desk serves")
     words.add_argument("--port", type=int, default=8081, help="the port of 127.0.0.1 (8081); 0 takes one that is free")
-    words.add_argument(
-        "--desk", metavar="URL", help="a desk that is there; without it the screen starts one of its own"
-    )
+    words.add_argument("--desk", metavar="URL", help="a desk that is there; without it the screen starts its own")
     words.add_argument("--no-desk", action="store_true", help="look at a copy of a book, without any desk")
     words.add_argument("--program", metavar="PATH", default="outagebook", help="the program (outagebook on the path)")
     words.add_argument("--read-only", action="store_true", help="nobody may send commands")
@@ -52,12 +49,8 @@ def read_words() -> argparse.Namespace:
     words.add_argument("--name", metavar="TEXT", help="the book's name on each page (that of its file)")
     words.add_argument("--training", action="store_true", help="a book for training: pages have another colour")
     words.add_argument("--host", metavar="NAME", action="append", default=[], help="a name by which browsers call it")
-    words.add_argument(
-        "--log", metavar="FILE", type=Path, help="the screen's own log (the book's name and -screen.jsonl)"
-    )
-    words.add_argument(
-        "--head-seconds", metavar="N", type=seconds, default=Limits.head, help="for a request's head (10)"
-    )
+    words.add_argument("--log", metavar="FILE", type=Path, help="its own log (the book's name and -screen.jsonl)")
+    words.add_argument("--head-seconds", metavar="N", type=seconds, default=Limits.head, help="for a whole head (10)")
     words.add_argument("--body-seconds", metavar="N", type=seconds, default=Limits.body, help="for its body (30)")
     given = words.parse_args()
     if given.desk and given.no_desk:
@@ -80,28 +73,23 @@ async def wait_for(desk: Desk) -> None:
             await asyncio.sleep(BETWEEN_TRIES)
 
 
-async def start_desk(given: argparse.Namespace, tasks: list[asyncio.Task[None]]) -> tuple[Desk | None, OwnDesk | None]:
+async def start_desk(given: argparse.Namespace, at_end: AsyncExitStack) -> Desk | None:
     """The desk that is asked for, at work."""
     if given.no_desk:
-        return None, None
+        return None
     if given.desk:
         desk = Desk(given.desk.rstrip("/"))
         await wait_for(desk)
-        return desk, None
-    desk = Desk(None)
-    own = OwnDesk(desk, given.program, given.book.resolve())
-    tasks.append(asyncio.create_task(own.keep()))
-    why = await own.first_start
-    if why:
-        raise BookError(why)
-    return desk, own
+        return desk
+    own = OwnDesk(Desk(None), given.program, given.book.resolve())
+    at_end.push_async_callback(own.end)
+    await own.begun()
+    return own.desk
 
 
 async def known_state(copy: DeskCopy, book: Path) -> State:
     """The rows of a book that is looked at without its desk; the copy has what they have."""
-    why = await copy.first_start
-    if why:
-        raise BookError(why)
+    await copy.begun()
     state = new_state(book)
     for command, moves in read_later(book, copy.known):
         if command.number <= state.number:
@@ -109,33 +97,35 @@ async def known_state(copy: DeskCopy, book: Path) -> State:
     return state
 
 
-async def serve(given: argparse.Namespace) -> None:
-    ended = asyncio.Event()
-    for each in (signal.SIGTERM, signal.SIGINT):
-        asyncio.get_running_loop().add_signal_handler(each, ended.set)
-    tasks: list[asyncio.Task[None]] = []
-    desk, own = await start_desk(given, tasks)
-    book = given.book.resolve()
-    copy = DeskCopy(given.program, book)
-    tasks.append(asyncio.create_task(copy.keep()))
+@asynccontextmanager
+async def meanwhile(*works: Coroutine[Any, Any, object]) -> AsyncIterator[None]:
+    """Does some works beside what is done here; then they are broken off."""
+    tasks = [asyncio.create_task(each) for each in works]
     try:
-        log = given.log or given.book.with_name(f"{given.book.name}-screen.jsonl")
-        state = await known_state(copy, book) if given.no_desk else new_state(book)
-        office = Office(book, state, desk, copy, Journal(None if given.no_desk else log))
-        tasks.append(asyncio.create_task(office.look_back()))
-        if desk is not None:
-            if (await desk.ask("GET", f"/supply/{state.now()}")).status == 404:
-                raise BookError("the desk's program is older than this screen")
-            office.note_start()
-            tasks.append(asyncio.create_task(office.watch()))
-        await listen(given, office, ended)
+        yield
     finally:
         for task in tasks:
             task.cancel()
         await asyncio.gather(*tasks, return_exceptions=True)
-        for each_desk in (own, copy):
-            if each_desk is not None:
-                await each_desk.end()
+
+
+async def serve(given: argparse.Namespace) -> None:
+    ended, book = asyncio.Event(), given.book.resolve()
+    for each in (signal.SIGTERM, signal.SIGINT):
+        asyncio.get_running_loop().add_signal_handler(each, ended.set)
+    async with AsyncExitStack() as at_end:
+        desk = await start_desk(given, at_end)
+        copy = DeskCopy(given.program, book)
+        at_end.push_async_callback(copy.end)
+        log = given.log or given.book.with_name(f"{given.book.name}-screen.jsonl")
+        state = await known_state(copy, book) if desk is None else new_state(book)
+        office = Office(book, state, desk, copy, Journal(log if desk else None))
+        if desk is not None:
+            if (await desk.ask("GET", f"/supply/{state.now()}")).status == 404:
+                raise BookError("the desk's program is older than this screen")
+            office.note_start()
+        async with meanwhile(office.past(), *([office.watch()] if desk else [])):
+            await listen(given, office, ended)
 
 
 async def listen(given: argparse.Namespace, office: Office, ended: asyncio.Event) -> None:
@@ -171,7 +161,7 @@ def main() -> int:
     logging.basicConfig(level=logging.ERROR)
     try:
         asyncio.run(serve(given))
-    except BookError as error:
+    except (BookError, Away) as error:
         print(f"error: {error}", file=sys.stderr)
         return 1
     return 0

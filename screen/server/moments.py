@@ -1,14 +1,10 @@
 """Moments as people type them: by the clock of the book's zone, with the offset where that clock shows an hour twice."""
 
-from __future__ import annotations
-
 import re
 import time
 from bisect import bisect_left
 from collections.abc import Sequence
-from dataclasses import asdict, dataclass
 from datetime import date, datetime, timedelta
-from typing import Any
 
 from .reader import Zone
 from .state import Refused
@@ -24,32 +20,14 @@ LAST = 99_999_999_999
 AHEAD_SECONDS = 60  # that a clock may go before the server's
 
 
-@dataclass(frozen=True)
-class Moment:
-    second: int
-    text: str
-
-
-def moment_of(zone: Zone, second: int) -> Moment:
-    return Moment(second, zone.text_of(second))
-
-
-def duration(seconds: int) -> str:
-    """A length of time by its two largest units."""
-    parts = ((seconds // 86_400, "d"), (seconds // 3_600 % 24, "h"), (seconds // 60 % 60, "min"), (seconds % 60, "s"))
-    first = next((place for place, (count, _) in enumerate(parts) if count), len(parts) - 1)
-    return " ".join(f"{count} {unit}" for count, unit in parts[first : first + 2] if count) or "0 s"
-
-
 def double_hours(zone: Zone, bounds: Sequence[int]) -> list[tuple[str, str]]:
     """The times of some days that the clock shows twice: of each span the first one, and the one at which it ends."""
     found = []
     for since, until in zip(bounds, bounds[1:]):
-        back = zone.offset_at(since) - zone.offset_at(until)
+        offset = zone.offset_at(since)
+        back = offset - zone.offset_at(until)
         if back > 0:
-            turn = since + bisect_left(
-                range(since, until), True, key=lambda at: zone.offset_at(at) < zone.offset_at(since)
-            )
+            turn = since + bisect_left(range(since, until), True, key=lambda at: zone.offset_at(at) < offset)
             begin = datetime.fromisoformat(zone.text_of(turn)[:19])
             found.append((begin.isoformat(), (begin + timedelta(seconds=back)).isoformat()))
     return found
@@ -70,12 +48,12 @@ def date_of(zone: Zone, typed: str) -> date:
     return date(int(year), int(month), int(day)) if rest else date.fromisoformat(typed)
 
 
-def read_moment(zone: Zone, text: str, may_come: bool = False) -> list[Moment]:
+def read_moment(zone: Zone, text: str, may_come: bool = False) -> list[int]:
     """The seconds that a typed moment may mean: one, or two where the clock shows it twice. Without a date it is the latest
     one that has come; where it `may_come`, that of today."""
     text = text.strip()
     if UNIX.fullmatch(text):
-        return [moment_of(zone, int(text))]
+        return [int(text)]
     text = f"{text} 00:00" if text.lower() in DAYS_BACK else text
     match = TYPED.fullmatch(text)
     if match is None:
@@ -93,12 +71,7 @@ def read_moment(zone: Zone, text: str, may_come: bool = False) -> list[Moment]:
         raise Refused(f"the clock of the book's zone never shows {text}: it is set forward over that hour")
     if not all(0 <= each <= LAST for each in found):
         raise Refused(f"{text} lies outside of what a book can hold")
-    return [moment_of(zone, each) for each in found]
-
-
-def moment_view(zone: Zone, text: str) -> list[dict[str, Any]]:
-    """What a typed moment may mean, for a page."""
-    return [asdict(each) for each in read_moment(zone, text)]
+    return found
 
 
 def seconds_of(zone: Zone, day: date, hour: str, minute: str, second: str | None, offset: str | None) -> list[int]:

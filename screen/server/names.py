@@ -1,7 +1,5 @@
 """The name that a login has in the book, as a crew or an engineer: no two logins have the same one."""
 
-from __future__ import annotations
-
 import re
 
 LETTERS = 16

@@ -1,19 +1,17 @@
 """The screen's server behind its pages: the state that is kept in step, the desk, the log, and who is told of what."""
 
-from __future__ import annotations
-
 import asyncio
 import re
-from collections import OrderedDict, deque
-from collections.abc import Sequence
-from contextlib import suppress
+from collections import deque
+from collections.abc import Iterator, Sequence
+from contextlib import contextmanager, suppress
 from pathlib import Path
 from typing import Any
 
 from . import refusals, undo, views
 from .answers import Plan, Supply, command_body, moves_in, plan_in, supply_in
 from .apart import Apart, Kept
-from .commands import FIELDS
+from .commands import FIELDS, fields_of
 from .desk import IMPORT_SECONDS, Answer, Away, Desk
 from .journal import Journal
 from .reader import Command, Moves, Past, past_outages, read_later, read_rows
@@ -28,7 +26,9 @@ AWAY_WORDS = (
     "The desk gave no answer, so it isn't known whether this is saved. Send it again: it goes under the same reference, "
     "and acts once."
 )
+Told = tuple[int, dict[str, Any]]  # a status, and what the page is told
 PLAIN = re.compile(r"0|[1-9][0-9]*|-")
+NUMBERS = ("entry", "revision", "customer", "cause", "second", "since", "until", "beginning", "end")  # fields that are
 
 
 class Hub:
@@ -49,45 +49,46 @@ class Hub:
                     page.get_nowait()
             page.put_nowait(event)
 
-    def join(self, login: str) -> asyncio.Queue[dict[str, Any]]:
+    @contextmanager
+    def page(self, login: str) -> Iterator[asyncio.Queue[dict[str, Any]]]:
+        """A page's events, as long as it is open."""
         page: asyncio.Queue[dict[str, Any]] = asyncio.Queue(WAITING_EVENTS)
         self.pages[page] = login
-        return page
-
-    def leave(self, page: asyncio.Queue[dict[str, Any]]) -> None:
-        self.pages.pop(page, None)
+        try:
+            yield page
+        finally:
+            del self.pages[page]
 
 
 class Office:
     def __init__(self, book: Path, state: State, desk: Desk | None, copy: DeskCopy, journal: Journal):
-        self.book, self.state, self.desk, self.journal = book, state, desk, journal
-        self.copy = copy
+        self.book, self.state, self.copy, self.journal = book, state, copy, journal
+        self.desk, self.has_desk = desk or Desk(None), desk is not None
         self.state.sent = journal.sent
         self.hub = Hub()
         self.in_step = asyncio.Lock()
         self.rows, self.tables, self.reports = Apart("rows"), Apart("tables"), Apart("reports")
         self.kept: dict[str, Kept] = {}  # what is made of the whole book, by name
-        self.undos: OrderedDict[int, tuple[str, ...] | None] = OrderedDict()  # by command: what takes it back
+        self.undos: dict[int, tuple[str, ...] | None] = {}  # by command: what takes it back
         self.news: deque[dict[str, Any]] = deque(maxlen=KEPT_NEWS)  # the outages that began last, latest first
         self.past_order, self.past_of = asyncio.Lock(), -1
         self.past_known: Past = {}  # as of the command `past_of`
         self.is_importing = False
         self.differs: str | None = None
-        self.told_away: str | None = None
+        self.told_away = False
 
     # What is known of the desk.
 
     def desk_view(self) -> dict[str, Any]:
-        away = self.desk.why_away if self.desk else None
-        state = "none" if self.desk is None else "away" if away else "here"
+        away = self.desk.why_away if self.has_desk else None
+        state = "none" if not self.has_desk else "away" if away else "here"
         return {"desk": state, "why": away, "differs": self.differs, "number": self.state.number}
 
     def tell_desk(self) -> None:
         """Tells all pages where the desk has gone away or come back."""
-        away = self.desk.why_away if self.desk else None
-        if bool(away) != bool(self.told_away):
+        if (is_away := bool(self.desk.why_away)) != self.told_away:
             self.hub.tell({"what": "desk", **self.desk_view()})
-        self.told_away = away
+        self.told_away = is_away
 
     async def watch(self) -> None:
         """Looks once a second whether a command came another way, or the desk went or came."""
@@ -103,7 +104,6 @@ class Office:
             await asyncio.sleep(WATCH_SECONDS)
 
     async def look(self) -> None:
-        assert self.desk is not None
         answer = await self.desk.ask("GET", f"/commands/{self.state.number + 1}")
         if answer.status == 200:
             async with self.in_step:
@@ -133,8 +133,7 @@ class Office:
         self.undos[command.number] = undo.undo_of(self.state, command)
         self.state.take(command)
         self.copy.note(command, moves)
-        while len(self.undos) > KEPT_UNDOS:
-            self.undos.popitem(last=False)
+        self.undos.pop(command.number - KEPT_UNDOS, None)
 
     async def tell_commands(self, commands: list[Command], moves: Moves) -> None:
         """Tells all pages of new commands: the last one, with what it moved, and the outages that they began."""
@@ -167,20 +166,15 @@ class Office:
 
     # Commands.
 
-    async def send(
-        self, login: str, command: dict[str, str], seen: int | None, **told: str
-    ) -> tuple[int, dict[str, Any]]:
+    async def send(self, login: str, command: dict[str, str], seen: int | None, **told: str) -> Told:
         """Sends a command until the desk has answered it: the status and what the page is told. `seen` is the last command
         that the page knew of when it showed what this one would do; `told` goes into the log."""
-        assert self.desk is not None
         known = self.state.number
         self.journal.write(login, command["ref"], sent=command, **told)
         try:
             answer, tries = await self.desk.send(command)
         except Away as away:
-            self.journal.write(login, command["ref"], unanswered=str(away))
-            self.tell_desk()
-            return 503, {"error": "away", "words": AWAY_WORDS, "ref": command["ref"], "why": str(away)}
+            return self.unanswered(login, command["ref"], away)
         self.journal.write(login, command["ref"], status=answer.status, answer=body_of(answer))
         reply = answer.json()
         if answer.status != 200:
@@ -193,21 +187,24 @@ class Office:
         shown["undo"] = views.command_view(self.state, self.undos.get(number))
         return 200, shown
 
+    def unanswered(self, login: str, reference: str, away: Away) -> Told:
+        self.journal.write(login, reference, unanswered=str(away))
+        self.tell_desk()
+        return 503, {"error": "away", "words": AWAY_WORDS, "why": str(away)}
+
     async def refused(self, command: dict[str, str], reply: dict[str, Any], answer: Answer) -> dict[str, Any]:
         """A refusal in words. It often means that another command came first: so the state is brought up to it."""
-        try:
+        with suppress(Away):
             await self.look()
-        except Away:
-            pass
         shown: dict[str, Any] = {"error": "refused", "reply": reply, "text": answer.body.decode()}
-        shown["words"] = refusals.words_of(self.state, command, reply)
+        kind, fields = command["kind"], fields_of(command)
+        shown["words"] = refusals.words_of(self.state, kind, fields, reply)
         if reply.get("refused") in (7, 8):
-            shown["entry"] = refusals.stale_entry(self.state, command)
+            shown["entry"] = refusals.stale_entry(self.state, kind, fields)
         return shown
 
-    async def import_rows(self, login: str, rows: bytes) -> tuple[int, dict[str, Any]]:
+    async def import_rows(self, login: str, rows: bytes) -> Told:
         """Hands a CSV text to the desk: its report."""
-        assert self.desk is not None
         self.journal.write(login, "", sent={"kind": "import", "bytes": len(rows)})
         known, self.is_importing = self.state.number, True
         try:
@@ -215,8 +212,7 @@ class Office:
             async with self.in_step:
                 await self.catch_up()
         except Away as away:
-            self.journal.write(login, "", unanswered=str(away))
-            return 503, {"error": "away", "words": AWAY_WORDS, "why": str(away)}
+            return self.unanswered(login, "", away)
         finally:
             self.is_importing = False
         commands = [known + 1, self.state.number] if self.state.number > known else None
@@ -228,13 +224,13 @@ class Office:
     async def supply(self, second: int) -> Supply:
         """The supply at a second of the period."""
         found = await self.supply_now(second)
-        if self.desk is not None and not self.knows(found):
+        if self.has_desk and not self.knows(found):
             await self.look()
         return found
 
     async def supply_now(self, second: int) -> Supply:
         try:
-            return supply_in(await self.ask_now(f"/supply/{second}"))
+            return supply_in(await self.desk.look(f"/supply/{second}"))
         except Away:
             return await self.copy.supply(second)
 
@@ -247,37 +243,25 @@ class Office:
     async def plan(self, kind: str, fields: Sequence[str]) -> Plan:
         """What a command would do."""
         try:
-            return plan_in(await self.ask_now("/plan", command_body(kind, fields)))
+            return plan_in(await self.desk.look("/plan", command_body(kind, fields)))
         except Away:
             return await self.copy.plan(kind, fields)
 
     async def view(self, route: str) -> Any:
         """One of the desk's views, as JSON."""
         try:
-            return (await self.ask_now(route)).json()
+            return (await self.desk.look(route)).json()
         except Away:
             return (await self.copy.ask(route)).json()
 
-    async def ask_now(self, route: str, body: bytes | None = None) -> Answer:
-        if self.desk is None:
-            raise Away("there is no desk")
-        return await self.desk.look(route, body)
-
-    async def moves_of(self, number: int) -> str | None:
-        """The reply that a command had, word for word; None where there is none."""
-        if self.desk is not None:
-            answer = await self.desk.ask("GET", f"/commands/{number}")
-        else:
-            answer = await self.copy.ask(f"/commands/{number}")
+    async def words_of(self, route: str) -> str | None:
+        """What the desk says, word for word, or its copy where there is no desk; None where there is no such thing."""
+        answer = await (self.desk.ask("GET", route) if self.has_desk else self.copy.ask(route))
         return answer.body.decode() if answer.status == 200 else None
-
-    async def look_back(self) -> None:
-        """Finds past outages before somebody asks for them: in a long book that takes some seconds."""
-        await self.past()
 
     async def past(self) -> Past:
         """All outages: those of the rows once, by the tools, and from then on as the copy of the desk says that commands change
-        them."""
+        them. In a long book the first time takes some seconds."""
         async with self.past_order:
             state, followed = self.state, None
             if self.past_of == state.number:
@@ -304,16 +288,13 @@ def body_of(answer: Answer) -> Any:
 
 def is_canonical(command: Command) -> bool:
     """The fields are spelled as the book keeps them: else the command is read from the file, as one of another client."""
-    places = {"switch": (2, 3), "correct": (0, 1, 3, 4), "withdraw": (0, 1), "revise": (0, 1, 2), "connect": (0, 2, 3)}
-    numbers = [command.fields[place] for place in places.get(command.kind, ())]
-    numbers += command.fields[-2:] if command.kind in ("device", "life") else []
-    return all(PLAIN.fullmatch(text) for text in numbers)
+    names = FIELDS[command.kind]
+    return all(PLAIN.fullmatch(text) for name, text in zip(names, command.fields) if name in NUMBERS)
 
 
 def accepted(number: int, command: dict[str, str]) -> Command:
     """A command as the book keeps it: its fields, with `-` for an end that is none and 0 for a beginning that is none."""
-    kind = command["kind"]
-    fields = [command.get(f"f{place}", "") for place in range(1, len(FIELDS[kind]) + 1)]
+    kind, fields = command["kind"], fields_of(command)
     if kind in ("device", "life", "connect", "revise"):
         fields[-1] = fields[-1] or "-"
         fields[-2] = fields[-2] or "0"

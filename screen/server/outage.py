@@ -1,7 +1,5 @@
 """A whole outage: what its steps would do one after the other, the order in which they are sent, and the entries that it has."""
 
-from __future__ import annotations
-
 import json
 from collections import defaultdict
 from collections.abc import Sequence
@@ -10,7 +8,7 @@ from itertools import chain
 from .answers import NotPlanned
 from .commands import FIELDS
 from .desk import Away
-from .forecasts import ahead_of, changes_of, forecast_view, late_hints, notes_of, refusal_words, second_of
+from .forecasts import changes_of, forecast_view, notes_of, refusal_words, second_of
 from .names import outage_in
 from .office import Office
 from .reader import Entry, Moves
@@ -19,7 +17,7 @@ from .state import NotNow, Refused, State
 from .views import Json, entry_view, reference_of
 
 MOST_STEPS = 30
-SHOWN = ("words", "reason", "total", "future", "sections", "hints")  # of the forecast of each step
+SHOWN = ("words", "reason", "total", "future", "late", "sections", "hints")  # of the forecast of each step
 SECONDS = {"switch": 3, "correct": 4}  # where a step has its second
 
 
@@ -61,11 +59,10 @@ async def forecast(office: Office, steps: Sequence[Step]) -> Json:
     kind, *fields = steps[in_time[0]]
     plans = [each.plan for each in tried]
     whole = forecast_view(state, kind, fields, added([plan.moves for plan in plans]), changes_of(plans))
-    ahead = [ahead_of(state, second_of(kind, fields)) for kind, *fields in steps]
     return {
         **whole,
-        "hints": late_hints("switch", -min(ahead)),
-        "future": next((row["future"] for row in reversed(rows) if row["future"]), None),
+        "late": max(row["late"] for row in rows),
+        "future": max(row["future"] for row in rows),
         "words": "; ".join(row["words"] for row in rows),
         "steps": rows,
         "order": list(order),

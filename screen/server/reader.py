@@ -1,7 +1,5 @@
 """The rows of a book, by the tools' reader: the one module that knows where the tools stand."""
 
-from __future__ import annotations
-
 import sqlite3
 import sys
 from collections.abc import Iterator, Sequence
@@ -13,25 +11,19 @@ ROOT = Path(__file__).resolve().parent.parent.parent
 TOOLS = next(folder for folder in (ROOT / "tools", ROOT) if (folder / "outage_tools" / "rows.py").exists())
 sys.path.insert(1, str(TOOLS))  # in the clone, or where both are installed
 
-from outage_tools.cli import Parser  # noqa: E402
-from outage_tools.copies import copy_of  # noqa: E402
-from outage_tools.counts import Counts, indices_of, quotient_text  # noqa: E402
-from outage_tools.errors import BookError  # noqa: E402
-from outage_tools.interruptions import LONGEST_MOMENTARY  # noqa: E402
-from outage_tools.rows import Book, Device, Entry, Period, Section, read_book  # noqa: E402
+from outage_tools.cli import Parser as Parser  # noqa: E402
+from outage_tools.copies import copy_of as copy_of  # noqa: E402
+from outage_tools.counts import Counts as Counts, indices_of as indices_of, quotient_text as quotient_text  # noqa: E402
+from outage_tools.errors import BookError as BookError  # noqa: E402
+from outage_tools.interruptions import LONGEST_MOMENTARY as LONGEST_MOMENTARY  # noqa: E402
+from outage_tools.rows import Book, Device as Device, Entry as Entry, Period as Period, Section, read_book  # noqa: E402
 from outage_tools.supply import sweep  # noqa: E402
-from outage_tools.zone import Zone  # noqa: E402
-
-__all__ = ["BookError", "Command", "Counts", "Device", "Entry", "LONGEST_MOMENTARY", "Parser", "Past", "Period", "Rows"]
-__all__ += ["Zone", "command_of", "copy_of", "counts_of", "indices_of", "past_outages", "quotient_text", "read_later"]
-__all__ += ["read_rows", "report_words", "tool_words"]
+from outage_tools.zone import Zone as Zone  # noqa: E402
 
 DIMENSIONS = {1: "cause", 2: "feeder", 3: "day"}
 Moves = list[tuple[str, int, int]]
 Nodes = list[tuple[str, int, int]]  # name, kind, home feeder
-Past = dict[
-    str, list[tuple[int, int, int]]
-]  # all outages of each section: since, until, the entry that cut it off, or 0
+Past = dict[str, list[tuple[int, int, int]]]  # outages by section: since, until, the entry that cut it off (0: none)
 Service = tuple[int, int, int | None]  # section, since, until
 
 
@@ -118,17 +110,10 @@ def moves_of(database: sqlite3.Connection, number: int) -> Moves:
 def counts_of(copy: Path) -> tuple[int, int]:
     """How many commands and entries a copy of a book has."""
     with closing(sqlite3.connect(f"{copy.as_uri()}?mode=ro", uri=True)) as database:
-        found: tuple[int, int] = database.execute(
-            "SELECT (SELECT count(*) FROM cmd), (SELECT count(*) FROM entry)"
-        ).fetchone()
-        return found
+        found = database.execute("SELECT (SELECT count(*) FROM cmd), (SELECT count(*) FROM entry)").fetchone()
+        return int(found[0]), int(found[1])
 
 
 def tool_words(tool: str) -> list[str]:
     """The words that run one of the tools."""
     return [sys.executable, str(TOOLS / f"{tool}.py")]
-
-
-def report_words(book: Path, output: Path, program: str) -> list[str]:
-    """The words that write the printed report of a book."""
-    return [*tool_words("report"), str(book), "-o", str(output), "--program", program]

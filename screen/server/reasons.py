@@ -1,7 +1,5 @@
 """Why a closing gives nobody back supply: the devices above that are open."""
 
-from __future__ import annotations
-
 from .answers import Supply
 from .diagram import closed_devices, layout_of, supplied_nodes
 from .state import State
@@ -23,11 +21,8 @@ def still_cut_off(state: State, supply: Supply, number: int, entry: int) -> str 
     above = open_above(state, number, closed)
     words = [open_words(state, supply, each) for each in above[:MOST_NAMED]]
     more = f" and {len(above) - MOST_NAMED} more" if len(above) > MOST_NAMED else ""
-    return (
-        f"Still cut off: above it {', '.join(words)}{more}."
-        if words
-        else "Still cut off: no way leads from GRID to it."
-    )
+    why = f"above it {', '.join(words)}{more}" if words else "no way leads from GRID to it"
+    return f"Still cut off: {why}."
 
 
 def open_above(state: State, number: int, closed: list[bool]) -> list[int]:

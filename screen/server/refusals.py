@@ -1,7 +1,6 @@
 """The desk's refusals in a person's words, beside their number."""
 
-from __future__ import annotations
-
+from collections.abc import Sequence
 from typing import Any
 
 from .commands import FIELDS
@@ -35,19 +34,13 @@ PLAIN = {
 }
 
 
-def names_of(command: dict[str, str]) -> dict[str, str]:
-    """The fields of a command by their names."""
-    names = FIELDS.get(command["kind"], ())
-    return {name: command.get(f"f{place}", "") for place, name in enumerate(names, 1)}
-
-
-def words_of(state: State, command: dict[str, str], reply: dict[str, Any]) -> str:
+def words_of(state: State, kind: str, fields: Sequence[str], reply: dict[str, Any]) -> str:
     """What a refusal means for the command that was refused."""
     number, detail = reply.get("refused"), reply.get("detail")
     if number == 1:
-        return bad_field(command, detail)
+        return bad_field(kind, fields, detail)
     if number == 2:
-        return unknown_name(state, command)
+        return unknown_name(state, kind, fields)
     if number == 5:
         first, last = text(state, state.period.first), text(state, state.period.end - 1)
         return f"The second or the day lies outside the book's period, which goes from {first} to {last}."
@@ -60,20 +53,20 @@ def words_of(state: State, command: dict[str, str], reply: dict[str, Any]) -> st
     return PLAIN.get(number if isinstance(number, int) else 0, "The desk refused this command.")
 
 
-def bad_field(command: dict[str, str], column: object) -> str:
+def bad_field(kind: str, fields: Sequence[str], column: object) -> str:
     """Which field can't be read, and what it has to be."""
-    names = FIELDS.get(command["kind"], ())
+    names = FIELDS.get(kind, ())
     place = column - FIRST_FIELD if isinstance(column, int) else -1
     if not 0 <= place < len(names):
         return f"The {'reference' if column == 2 else 'command'} can't be read."
-    name, text = names[place], command.get(f"f{place + 1}", "")[:SHOWN_LETTERS]
+    name, text = names[place], fields[place][:SHOWN_LETTERS]
     words = SPELLINGS.get(name, NAME)
     return f"The {name} {text} can't be read, it has to be {words}." if text else f"The {name} is missing."
 
 
-def unknown_name(state: State, command: dict[str, str]) -> str:
+def unknown_name(state: State, kind: str, fields: Sequence[str]) -> str:
     """The field whose name the book doesn't know: its refusal doesn't say which."""
-    for field, value in names_of(command).items():
+    for field, value in zip(FIELDS[kind], fields):
         is_device = field == "device"
         is_node = field in ("first node", "second node", "section")
         if (is_device and value not in state.device_numbers) or (is_node and value not in state.node_numbers):
@@ -83,9 +76,7 @@ def unknown_name(state: State, command: dict[str, str]) -> str:
     return "The book knows no such name."
 
 
-def stale_entry(state: State, command: dict[str, str]) -> dict[str, Any] | None:
+def stale_entry(state: State, kind: str, fields: Sequence[str]) -> dict[str, Any] | None:
     """What the entry of a correction or a withdrawal is now."""
-    number = command.get("f1", "")
-    if command["kind"] in ("correct", "withdraw") and number.isdigit() and 1 <= int(number) <= len(state.entries):
-        return entry_view(state, state.entries[int(number) - 1])
-    return None
+    number = int(fields[0]) if kind in ("correct", "withdraw") and fields[0].isdecimal() else 0
+    return entry_view(state, state.entries[number - 1]) if 1 <= number <= len(state.entries) else None

@@ -1,8 +1,6 @@
 """What a shift did and hands over: the log by time of sending, what was entered since a time and by whom, open outages,
 marked days."""
 
-from __future__ import annotations
-
 import re
 import time
 from collections.abc import Iterable
@@ -10,7 +8,6 @@ from datetime import timedelta
 from itertools import islice
 
 from .answers import Outage
-from .commands import FIELDS
 from .journal import ELSEWHERE, IMPORT, Sending
 from .moments import DAYS_BACK, LAST, date_of, read_moment
 from .names import name_in
@@ -40,7 +37,7 @@ def bound_of(state: State, typed: str, is_end: bool) -> int:
         if not 0 <= found <= LAST:
             raise Refused(f"{typed} lies outside of what a book can hold")
         return found
-    return read_moment(zone, typed, may_come=is_end)[-1 if is_end else 0].second
+    return read_moment(zone, typed, may_come=is_end)[-1 if is_end else 0]
 
 
 def bounds_of(state: State, wanted: dict[str, str], since: int) -> tuple[int, int]:
@@ -66,15 +63,11 @@ def log_view(office: Office, wanted: dict[str, str]) -> list[Json]:
 def sending_view(state: State, sending: Sending) -> Json:
     entry = state.changed.get(sending.number) if sending.number else None
     return {
-        "second": sending.at,
         "at": text(state, sending.at),
-        "login": sending.login,
         "by": sending.login or OTHER,
         "reference": sending.reference,
-        "kind": sending.kind,
         "words": words_of(state, sending),
         "remark": sending.remark,
-        "outcome": sending.outcome,
         "result": result_of(sending, entry),
         "entry": entry,
     }
@@ -85,11 +78,8 @@ def words_of(state: State, sending: Sending) -> str:
         return "a file of commands"
     if sending.kind == ELSEWHERE:
         return elsewhere_words(state, *(sending.commands or (0, 0)))
-    fields = list(sending.fields[: len(FIELDS.get(sending.kind, ()))])
-    while fields and not fields[-1]:
-        fields.pop()
-    words = command_words(state, sending.kind, fields)
-    device = device_of(state, fields[0]) if sending.kind in ("correct", "withdraw") and fields else ""
+    words = command_words(state, sending.kind, sending.fields)
+    device = device_of(state, sending.fields[0]) if sending.kind in ("correct", "withdraw") else ""
     return words + (f" ({device})" if device else "")
 
 
@@ -136,8 +126,6 @@ async def shift_view(office: Office, wanted: dict[str, str]) -> Json:
     rest = [each for each in sendings if not is_entered(state, each)]
     return {
         "number": state.number,
-        "first": moment(state, state.period.first),
-        "last": moment(state, state.period.end - 1),
         "as_of": moment(state, supply.second),
         "since": moment(state, since),
         "until": moment(state, min(until, int(time.time()))),
@@ -167,8 +155,7 @@ def is_open(office: Office, sending: Sending) -> bool:
 def entered_view(state: State, found: dict[int, list[Json]]) -> list[Json]:
     """Entries as they are now, each with what was done to it."""
     late = state.late_entries()
-    shown = [(entry_view(state, state.entries[entry - 1], late), done) for entry, done in found.items()]
-    return [{**row, "withdrawn": not row["kept"], "done": done} for row, done in shown]
+    return [{**entry_view(state, state.entries[entry - 1], late), "done": done} for entry, done in found.items()]
 
 
 def entered_by(state: State, sendings: Iterable[Sending]) -> dict[int, list[Json]]:
@@ -180,19 +167,15 @@ def entered_by(state: State, sendings: Iterable[Sending]) -> dict[int, list[Json
             command = next(each for each in state.histories[entry] if each.number == number)
             by = sending.login or name_in(command.ref) or OTHER
             done = {"what": MADE[command.kind], "at": moment(state, sending.at), "by": by, "no": number}
-            done["remark"] = sending.remark
             if all(each["no"] != number for each in found.setdefault(entry, [])):
-                found[entry].append({**done, "reference": command.ref})
+                found[entry].append({**done, "remark": sending.remark})
     return found
 
 
 def numbers_of(state: State, sending: Sending) -> list[int]:
     """The commands of a sending that made or changed an entry, latest first."""
-    if sending.number is not None:
-        return [sending.number] if sending.number in state.changed else []
-    if sending.commands is None:
-        return []
-    span = range(sending.commands[0], sending.commands[1] + 1)
+    first, last = (sending.number, sending.number) if sending.number is not None else sending.commands or (1, 0)
+    span = range(first, last + 1)
     shorter = span if len(span) < len(state.changed) else state.changed
     return sorted((number for number in shorter if number in span and number in state.changed), reverse=True)
 

@@ -1,14 +1,13 @@
 """A book's rows in memory, kept in step command by command: what was said, and nothing that follows from it. Who has supply,
 what a command would do and what it moved are the desk's answers."""
 
-from __future__ import annotations
-
 import copy
 import time
 from collections import Counter, defaultdict, deque
 from collections.abc import Iterator
 from dataclasses import replace
 from datetime import date
+from typing import Self
 
 from .reader import Command, Device, Entry, Rows
 
@@ -78,7 +77,7 @@ class State:
         self.note(command)
         self.number = command.number
 
-    def after(self, kind: str, *fields: str) -> State:
+    def after(self, kind: str, *fields: str) -> Self:
         """The rows with a command about an entry; those that are kept in step with the book stay as they are."""
         found = copy.copy(self)
         found.entries = list(self.entries)
@@ -162,6 +161,9 @@ class State:
 
     def is_section(self, node: int) -> bool:
         return self.nodes[node][1] == SECTION
+
+    def sections(self) -> list[int]:
+        return [node for node in range(len(self.nodes)) if self.is_section(node)]
 
     def feeder_of(self, section: str) -> int:
         return self.nodes[self.node_numbers[section]][2]

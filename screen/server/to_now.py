@@ -4,8 +4,6 @@ They are the desk's figures of the whole period, less what outages that the desk
 customers who are in service then. At the period's end nothing is left out.
 """
 
-from __future__ import annotations
-
 import time
 from collections import defaultdict
 from collections.abc import Container, Iterable, Sequence
@@ -16,7 +14,7 @@ from .desk import Away
 from .office import Office
 from .reader import LONGEST_MOMENTARY, Counts, indices_of, quotient_text
 from .state import State
-from .views import Json, moment
+from .views import Json, day_name, moment
 
 NAMES = ("SAIFI", "SAIDI", "CAIDI", "ASAI")
 MOST_LATER = 200  # seconds to come at which something is switched
@@ -44,9 +42,7 @@ async def outages_behind(office: Office, end: int) -> list[Outage]:
 
 def served(state: State, end: int) -> int:
     """Customer-seconds in service up to a second."""
-    return sum(
-        state.served(node, state.period.first, end) for node in range(len(state.nodes)) if state.is_section(node)
-    )
+    return sum(state.served(node, state.period.first, end) for node in state.sections())
 
 
 def indices_up_to(
@@ -107,15 +103,9 @@ def amounts_up_to(state: State, totals: Json, end: int, behind: Sequence[Outage]
         dim: [[key, amount - less[dim, key]] for key, amount in totals[dim] if amount > less[dim, key]]
         for dim in ("cause", "feeder", "day")
     }
-    days = [
-        [state.period.days[day].isoformat(), amount, day in state.marks] for day, amount in rows["day"] if day <= today
-    ]
-    return {
-        "W": sum(amount for _, amount in rows["cause"]),
-        "causes": rows["cause"],
-        "feeders": rows["feeder"],
-        "days": days,
-    }
+    days = [[day_name(state, day), amount, day in state.marks] for day, amount in rows["day"] if day <= today]
+    parts = {"causes": rows["cause"], "feeders": rows["feeder"], "days": days}
+    return {"W": sum(amount for _, amount in rows["cause"]), **parts}
 
 
 async def to_now_view(office: Office) -> Json:

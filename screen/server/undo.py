@@ -1,7 +1,5 @@
 """What takes a command back: another command, which a page offers with its forecast."""
 
-from __future__ import annotations
-
 from .reader import Command
 from .state import State, said
 

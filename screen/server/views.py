@@ -1,13 +1,11 @@
 """What the pages show of a state: plain values for JSON. Each moment comes with its text by the clock of the book's zone."""
 
-from __future__ import annotations
-
 import re
-from collections.abc import Iterable, Sequence
+from collections.abc import Container, Iterable, Sequence
 from typing import Any
 
 from .answers import Outage, Supply
-from .commands import FIELDS
+from .commands import FIELDS, members_of
 from .diagram import closed_devices, layout_of, normal_ways, supplied_nodes
 from .moments import double_hours
 from .reader import Command, Entry
@@ -44,7 +42,6 @@ def book_view(state: State) -> Json:
         "nodes": [{"name": name, "kind": kind, "feeder": feeder} for name, kind, feeder in state.nodes],
         "devices": [device_view(state, number) for number in range(len(state.devices))],
         "crews": sorted(state.crews),
-        "marks": {day_name(state, day): engineer for day, engineer in sorted(state.marks.items())},
     }
 
 
@@ -120,9 +117,7 @@ def now_view(state: State, supply: Supply) -> Json:
         "at": moment(state, at),
         "outages": outages,
         "customers_out": sum(row.customers for row in supply.outages),
-        "customers_served": sum(
-            state.customers_at(node, at) for node in range(len(state.nodes)) if state.is_section(node)
-        ),
+        "customers_served": sum(state.customers_at(node, at) for node in state.sections()),
         **diagram_view(state, supply),
     }
 
@@ -167,8 +162,13 @@ def diagram_view(state: State, supply: Supply) -> Json:
 # The switching sheet.
 
 
-def entry_view(state: State, entry: Entry, late: set[int] | None = None) -> Json:
-    history = state.histories.get(entry.number, [])
+def statuses_of(state: State, entry: Entry, late: Container[int]) -> Json:
+    """What the log marks of an entry."""
+    is_corrected = any(command.kind == "correct" for command in state.histories.get(entry.number, []))
+    return {"late": entry.number in late, "corrected": is_corrected, "withdrawn": not entry.is_kept}
+
+
+def entry_view(state: State, entry: Entry, late: Container[int] | None = None) -> Json:
     return {
         "no": entry.number,
         "revision": entry.revision,
@@ -179,9 +179,8 @@ def entry_view(state: State, entry: Entry, late: set[int] | None = None) -> Json
         "cause_name": state.causes.get(entry.cause, ""),
         "crew": entry.crew,
         "kept": entry.is_kept,
-        "late": entry.number in (state.late_entries() if late is None else late),
-        "corrected": any(command.kind == "correct" for command in history),
-        "commands": [{"no": command.number, "ref": command.ref, "kind": command.kind} for command in history],
+        **statuses_of(state, entry, state.late_entries() if late is None else late),
+        "reference": reference_of(state, entry.number),
     }
 
 
@@ -207,15 +206,13 @@ def command_view(state: State, told: Sequence[str] | None) -> Json | None:
     if told is None:
         return None
     kind, *fields = told
-    named = {f"f{place}": field for place, field in enumerate(fields, 1)}
-    return {"command": {"kind": kind, **named}, "words": command_words(state, kind, fields)}
+    return {"command": members_of(kind, fields), "words": command_words(state, kind, fields)}
 
 
 def between_view(state: State, seen: int, number: int) -> list[Json]:
     """The commands that came after one that a page had seen and before another one."""
     return [
         {
-            "no": command.number,
             "ref": command.ref,
             "words": command_words(state, command.kind, command.fields),
             "entry": state.changed.get(command.number),

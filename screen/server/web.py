@@ -1,7 +1,5 @@
 """The routes of the screen, and what each request has to bring: its host, its origin, its token, its login."""
 
-from __future__ import annotations
-
 import asyncio
 import base64
 import hashlib
@@ -10,19 +8,20 @@ import json
 import re
 import secrets
 import time
-from collections.abc import Awaitable, Callable
+from collections.abc import Awaitable, Callable, Coroutine
+from contextlib import suppress
 from dataclasses import dataclass, field
 from functools import partial
 from inspect import isawaitable
 from pathlib import Path
-from typing import Any
+from typing import Any, cast
 from urllib.parse import urlsplit
 
 from aiohttp import web
 
 from . import forecasts, moments, outage, search, shift, views, year
 from .apart import Kept
-from .commands import FIELDS
+from .commands import FIELDS, fields_of
 from .desk import Away
 from .guard import BODY_BYTES
 from .names import NAME, folded, name_in
@@ -69,13 +68,11 @@ SETTINGS = "settings"
 
 
 def office_of(request: web.Request) -> Office:
-    found: Office = request.app[OFFICE]
-    return found
+    return cast(Office, request.app[OFFICE])
 
 
 def settings_of(request: web.Request) -> Settings:
-    found: Settings = request.app[SETTINGS]
-    return found
+    return cast(Settings, request.app[SETTINGS])
 
 
 def answer(status: int, shown: Any) -> web.Response:
@@ -105,7 +102,7 @@ def login_of(request: web.Request) -> str | None:
 
 def may_send(request: web.Request, login: str) -> bool:
     settings, office = settings_of(request), office_of(request)
-    return not settings.read_only and office.desk is not None and bool(login) and login.startswith(settings.senders)
+    return not settings.read_only and office.has_desk and bool(login) and login.startswith(settings.senders)
 
 
 def name_of(request: web.Request, login: str) -> str:
@@ -147,8 +144,6 @@ def refusal_of(request: web.Request) -> web.Response | None:
     hosts = settings_of(request).hosts
     if request.headers.get("Host", "") not in hosts:
         return complaint(403, "host", "this name isn't the screen's: --host tells it another")
-    if request.method not in ("GET", "HEAD", "POST"):
-        return complaint(405, "method", "the screen knows GET and POST", "GET, HEAD, POST")
     site, is_visit = request.headers.get("Sec-Fetch-Site", "none"), request.headers.get("Sec-Fetch-Mode") == "navigate"
     is_visit = is_visit and request.method == "GET" and request.path in PAGES  # by a link from elsewhere
     if site not in ("same-origin", "none") and not is_visit:
@@ -252,7 +247,7 @@ async def me(request: web.Request) -> web.StreamResponse:
             "name": name_of(request, login),
             "asks_name": settings.proxy is None,
             "may_send": may_send(request, login),
-            "could_send": not settings.read_only and office.desk is not None,
+            "could_send": not settings.read_only and office.has_desk,
             "book": settings.name,
             "training": settings.training,
             "token": token_of(settings, login),
@@ -276,7 +271,7 @@ def shows(view: Callable[[Office, Query], Any]) -> Handler:
     """A route that shows something by what is asked for."""
 
     async def show(request: web.Request) -> web.StreamResponse:
-        found = view(office_of(request), dict(request.query))
+        found = view(office_of(request), {**request.query, **request.match_info})
         return answer(200, await found if isawaitable(found) else found)
 
     return show
@@ -288,7 +283,7 @@ def second_within(office: Office, query: Query) -> int:
     if not typed:
         return office.state.now()
     found = moments.read_moment(period.zone, typed)
-    at = found[int(query.get("which") == "1") % len(found)].second
+    at = found[0]
     if not period.first <= at < period.end:
         raise Refused("the second lies outside the book's period")
     return at
@@ -300,6 +295,12 @@ def second(office: Office, query: Query) -> Json:
     at = second_within(office, query)
     goes = period.first <= read_at < period.end
     return {**views.moment(office.state, at), "goes": goes, "gone": max(0.0, read_at - at) if goes else 0.0}
+
+
+def moment(office: Office, query: Query) -> list[Json]:
+    """What a typed moment may mean: two seconds where the clock shows it twice."""
+    found = moments.read_moment(office.state.period.zone, query.get("text", ""))
+    return [views.moment(office.state, each) for each in found]
 
 
 async def now(office: Office, query: Query) -> Json:
@@ -324,38 +325,35 @@ async def forecast(office: Office, query: Query) -> Json:
     """What a command would do, or the steps of an outage."""
     if steps := query.get("steps"):
         return await outage.forecast(office, outage.steps_in(steps))
-    kind = query.get("kind", "")
-    fields = [query.get(f"f{place}", "") for place, _ in enumerate(FIELDS.get(kind, ()), 1)]
-    return await forecasts.forecast(office, kind, fields)
+    return await forecasts.forecast(office, query.get("kind", ""), fields_of(query))
 
 
-def entry_number(request: web.Request) -> int:
-    number = int(request.match_info["no"])
-    if not 1 <= number <= len(office_of(request).state.entries):
+def entry_number(office: Office, query: Query) -> int:
+    if not 1 <= int(query["no"]) <= len(office.state.entries):
         raise web.HTTPNotFound()
-    return number
+    return int(query["no"])
 
 
-async def outage_of(request: web.Request) -> web.StreamResponse:
+def outage_of(office: Office, query: Query) -> Json:
     """The entries of the outage that an entry belongs to."""
-    return answer(200, outage.outage_view(office_of(request).state, entry_number(request)))
+    return outage.outage_view(office.state, entry_number(office, query))
 
 
-async def entry(request: web.Request) -> web.StreamResponse:
+async def entry(office: Office, query: Query) -> Json:
     """An entry with its commands and the moves of each, in the desk's own words."""
-    office, number = office_of(request), entry_number(request)
+    number = entry_number(office, query)
     shown = views.entry_view(office.state, office.state.entries[number - 1])
     shown["history"] = []
     is_away = False
     for command in office.state.histories[number]:
         text = None
         try:
-            text = None if is_away else await office.moves_of(command.number)
+            text = None if is_away else await office.words_of(f"/commands/{command.number}")
         except Away:
             is_away = True  # the entry is shown all the same, and the desk isn't waited for again
         remark = office.journal.remark_of(command.ref)
         shown["history"].append({**views.history_view(office.state, command), "text": text, "remark": remark})
-    return answer(200, shown)
+    return shown
 
 
 async def command(request: web.Request) -> web.StreamResponse:
@@ -385,38 +383,25 @@ async def rows(request: web.Request) -> web.StreamResponse:
 # The year.
 
 
-async def whole(request: web.Request, name: str, make: Callable[[], Awaitable[Any]]) -> Any:
+async def whole(office: Office, name: str, make: Callable[[], Coroutine[Any, Any, Any]]) -> Any:
     """Something that is made of the whole book: one at a time, and kept until the book has another command."""
-    office = office_of(request)
-    kept = office.kept.setdefault(name, Kept(lambda: office.state.number, make))
-    return await kept.get()
+    return await office.kept.setdefault(name, Kept(lambda: office.state.number, make)).get()
 
 
-async def table_text(request: web.Request) -> str:
-    office = office_of(request)
-
-    async def make() -> str:
-        answered = office.copy.ask("/table") if office.desk is None else office.desk.ask("GET", "/table")
-        return (await answered).body.decode()
-
-    return str(await whole(request, "table", make))
+async def table_text(office: Office) -> str:
+    return await whole(office, "table", partial(office.words_of, "/table")) or ""
 
 
-async def table(request: web.Request) -> web.StreamResponse:
-    text = await table_text(request)
-    return answer(200, {**year.table_view(text), **await to_now_view(office_of(request))})
+async def table(office: Office, _: Query) -> Json:
+    return {**year.table_view(await table_text(office)), **await to_now_view(office)}
 
 
 async def download(request: web.Request) -> web.StreamResponse:
     office, program, name = office_of(request), settings_of(request).program, request.match_info["name"]
     if name == "table.txt":
-        data = (await table_text(request)).encode()
-    elif name == "commands.csv":
-        data = await office.tables.run(year.commands_csv, program, office.book)
-    elif name == "moves.csv":
-        data = await office.tables.run(year.moves_csv, program, office.book)
+        data = (await table_text(office)).encode()
     else:
-        raise web.HTTPNotFound()
+        data = await office.tables.run(year.TEXTS[name], program, office.book)
     kind = "text/csv" if name.endswith(".csv") else "text/plain"
     headers = {"Content-Disposition": f"attachment; filename={name}"}
     return web.Response(body=data, content_type=kind, charset="utf-8", headers=headers)
@@ -425,7 +410,7 @@ async def download(request: web.Request) -> web.StreamResponse:
 async def report(request: web.Request) -> web.StreamResponse:
     """The printed report. Its style stands in the page, so the policy names just that by its hash."""
     office, program = office_of(request), settings_of(request).program
-    data = await whole(request, "report", partial(office.reports.run, year.report_page, program, office.book))
+    data = await whole(office, "report", partial(office.reports.run, year.report_page, program, office.book))
     styles = re.findall(rb"<style>(.*?)</style>", data, re.S)
     hashes = " ".join(f"'sha256-{base64.b64encode(hashlib.sha256(style).digest()).decode()}'" for style in styles)
     headers = {"Content-Security-Policy": f"default-src 'none'; style-src {hashes}; frame-ancestors 'none'"}
@@ -444,8 +429,7 @@ async def events(request: web.Request) -> web.StreamResponse:
     if office.hub.count(login) >= most:
         return complaint(429, "pages", f"this login has {most} pages open: close some of them")
     stream = web.StreamResponse(headers={"Content-Type": "text/event-stream", "X-Accel-Buffering": "no"})
-    queue = office.hub.join(login)
-    try:
+    with suppress(ConnectionError, asyncio.TimeoutError), office.hub.page(login) as queue:
         await stream.prepare(request)
         await write_event(stream, {"what": "hello", **office.desk_view()})
         while True:
@@ -454,10 +438,6 @@ async def events(request: web.Request) -> web.StreamResponse:
             except asyncio.TimeoutError:
                 event = {"what": "beat", **office.desk_view()}
             await write_event(stream, event)
-    except (ConnectionError, asyncio.TimeoutError):
-        pass
-    finally:
-        office.hub.leave(queue)
     return stream
 
 
@@ -471,23 +451,23 @@ GETS: dict[str, Handler] = {
     r"/static/{name:[a-z]+\.(js|css|svg)}": static,
     "/events": events,
     "/report": report,
-    "/download/{name}": download,
+    r"/download/{name:table\.txt|commands\.csv|moves\.csv}": download,
     "/api/me": me,
     "/api/book": shows(lambda office, _: views.book_view(office.state)),
     "/api/second": shows(second),
     "/api/now": shows(now),
     "/api/news": shows(lambda office, _: list(office.news)),  # the outages that began last, as this server has seen it
     "/api/sheet": shows(sheet),
-    r"/api/entries/{no:\d{1,6}}": entry,
-    r"/api/outages/{no:\d{1,6}}": outage_of,
-    "/api/moment": shows(lambda office, query: moments.moment_view(office.state.period.zone, query.get("text", ""))),
+    r"/api/entries/{no:\d{1,6}}": shows(entry),
+    r"/api/outages/{no:\d{1,6}}": shows(outage_of),
+    "/api/moment": shows(moment),
     "/api/position": shows(position),
     "/api/forecast": shows(forecast),
     "/api/customers": shows(lambda office, query: views.customers_view(office.state, query)),
     "/api/log": shows(shift.log_view),
     "/api/changes": shows(shift.shift_view),
     "/api/marks": shows(lambda office, _: shift.marks_view(office)),
-    "/api/year": table,
+    "/api/year": shows(table),
 }
 POSTS: dict[str, Handler] = {"/api/name": give_name, "/api/command": command, "/api/import": rows}
 

@@ -1,13 +1,11 @@
 """The program's annual table, line by line as it stands, and what else is made of a whole book: report and downloads."""
 
-from __future__ import annotations
-
 import subprocess
 import tempfile
 from pathlib import Path
 from typing import Any
 
-from .reader import BookError, copy_of, report_words, tool_words
+from .reader import BookError, copy_of, tool_words
 
 TOOL_SECONDS = 300
 
@@ -30,7 +28,7 @@ def table_view(table: str) -> dict[str, Any]:
         else:
             name, which, *value = words
             shown["indices"].setdefault(name, {})[which] = value
-    return {**shown, "text": table}
+    return shown
 
 
 def run(words: list[str]) -> bytes:
@@ -55,8 +53,11 @@ def commands_csv(program: str, book: Path) -> bytes:
     return run([*tool_words("commands"), str(book), "--program", program])
 
 
+TEXTS = {"commands.csv": commands_csv, "moves.csv": moves_csv}  # by the names under which they are downloaded
+
+
 def report_page(program: str, book: Path) -> bytes:
     with tempfile.TemporaryDirectory(prefix="screen-") as folder:
         output = Path(folder) / "report.html"
-        run(report_words(book, output, program))
+        run([*tool_words("report"), str(book), "-o", str(output), "--program", program])
         return output.read_bytes()

@@ -101,7 +101,8 @@ function stepParts(found) {
 export function forecastParts(found, tick) {
   const parts = [el("h2", {}, "What it would do")];
   for (const hint of found.hints) parts.push(el("p", { class: "warn hint" }, hint));
-  if (found.future) parts.push(el("div", { class: "warn hint" }, el("p", {}, `This lies ${found.future} in the future.`), el("label", { class: "check" }, tick, " Yes, it is planned for then")));
+  if (found.late) parts.push(el("p", { class: "warn hint" }, `This is a late entry: it lies ${duration(found.late, 2)} back.`));
+  if (found.future) parts.push(el("div", { class: "warn hint" }, el("p", {}, `This lies ${duration(found.future, 2)} in the future.`), el("label", { class: "check" }, tick, " Yes, it is planned for then")));
   if (found.steps) parts.push(...stepParts(found));
   if (found.sections.length) parts.push(...sectionGroups(found.sections));
   else if (!found.unmarked && !found.steps) parts.push(el("p", {}, "No section loses or gets back supply."));

@@ -59,7 +59,7 @@ function heading(shown) {
   const by = asked().name ? `, sent by ${asked().name}` : "";
   const count = shown.unanswered;
   return [
-    el("p", {}, "From ", listed(shown.since), " up to ", listed(shown.until), by, `, as of command ${shown.number}. The book's period goes from `, listed(shown.first), " to ", listed(shown.last), "."),
+    el("p", {}, "From ", listed(shown.since), " up to ", listed(shown.until), by, `, as of command ${shown.number}. The book's period goes from `, listed(known.book.first), " to ", listed(known.book.last), "."),
     count ? el("p", { class: "warn" }, `Commands without an answer: ${number(count)}. It isn't known whether they are saved.`) : "",
   ];
 }

@@ -105,7 +105,7 @@ async function show() {
     entry.action,
     `${entry.cause} ${entry.cause_name}`,
     entry.crew,
-    ticketOf(entry.commands[0]?.ref),
+    ticketOf(entry.reference),
     tags(entry).length ? el("span", {}, tags(entry)) : "",
   ]);
   const classes = shown.rows.map((entry) => (entry.kept ? "" : "gone"));

@@ -1,14 +1,12 @@
 """Headless Chromium for the screen's tests."""
 
-from __future__ import annotations
-
 import base64
 import tempfile
 import time
 from collections.abc import Callable, Iterator
 from contextlib import contextmanager
 from pathlib import Path
-from typing import Any
+from typing import Any, cast
 
 import support
 from selenium import webdriver
@@ -23,7 +21,7 @@ WORDS = ("--headless=new", "--no-sandbox", "--disable-gpu", "--disable-dev-shm-u
 PROBES = Path(__file__).with_name("probes.js").read_text(encoding="utf-8")
 CLICKS = 5  # on an element that moves
 MOVED = (ElementClickInterceptedException, StaleElementReferenceException)
-WIDE, PHONE = (1280, 900), (390, 844)
+PHONE = (390, 844)
 A4 = 702  # pixels between its margins
 
 
@@ -50,18 +48,14 @@ class Browser:
 
     def resize(self, width: int, height: int) -> None:
         self.width, self.height, is_phone = width, height, width < 500
-        self.tell(
-            "Emulation.setDeviceMetricsOverride", width=width, height=height, deviceScaleFactor=1, mobile=is_phone
-        )
+        size = {"width": width, "height": height, "deviceScaleFactor": 1, "mobile": is_phone}
+        self.tell("Emulation.setDeviceMetricsOverride", **size)
         self.tell("Emulation.setTouchEmulationEnabled", enabled=is_phone)
 
     def media(self, media: str) -> None:
         """Shows pages as for a screen (""), or as for paper ("print")."""
-        self.tell(
-            "Emulation.setEmulatedMedia",
-            media=media,
-            features=[{"name": "prefers-color-scheme", "value": self.scheme}],
-        )
+        features = [{"name": "prefers-color-scheme", "value": self.scheme}]
+        self.tell("Emulation.setEmulatedMedia", media=media, features=features)
 
     def end(self) -> None:
         self.driver.quit()
@@ -109,22 +103,18 @@ class Browser:
         return self.driver.execute_script(f"{PROBES}\nreturn {name}(...arguments);", *given)
 
     def all(self, selector: str) -> list[WebElement]:
-        found: list[WebElement] = self.driver.find_elements(By.CSS_SELECTOR, selector)
-        return found
+        return list(self.driver.find_elements(By.CSS_SELECTOR, selector))
 
     def find(self, selector: str) -> WebElement:
-        found: WebElement = self.wait(lambda: self.all(selector), selector)[0]
-        return found
+        return cast(WebElement, self.wait(lambda: self.all(selector), selector)[0])
 
     def field(self, label: str) -> WebElement:
         """The field of a label."""
-        found: WebElement = self.wait(lambda: self.probe("field", label), label)
-        return found
+        return cast(WebElement, self.wait(lambda: self.probe("field", label), label))
 
     def value(self, label: str) -> str | None:
         """What the field of a label has."""
-        found: str | None = self.field(label).get_attribute("value")
-        return found
+        return cast(str | None, self.field(label).get_attribute("value"))
 
     @property
     def title(self) -> str:
@@ -132,8 +122,7 @@ class Browser:
 
     @property
     def focus(self) -> WebElement:
-        found: WebElement = self.driver.switch_to.active_element
-        return found
+        return cast(WebElement, self.driver.switch_to.active_element)
 
     def text(self, selector: str) -> str:
         script = "return [...document.querySelectorAll(arguments[0])].map((each) => each.innerText).join('\\n')"
@@ -218,9 +207,7 @@ class Browser:
 
     def unfold(self, selector: str) -> None:
         """Unfolds all that is folded in an element."""
-        self.script(
-            "document.querySelectorAll(`${arguments[0]} details`).forEach((each) => (each.open = true))", selector
-        )
+        self.script("document.querySelectorAll(`${arguments[0]} details`).forEach((it) => (it.open = true))", selector)
 
     def tap_on(self, words: str) -> None:
         """Taps on a link or a button by its words, once it can be tapped on, as a finger does; by its own clock, so that it is

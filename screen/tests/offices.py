@@ -1,7 +1,5 @@
 """Tests inside the screen's server: what joins its parts, over a desk and its copy, without a browser's requests."""
 
-from __future__ import annotations
-
 import asyncio
 import time
 import unittest
@@ -24,9 +22,7 @@ class Case(unittest.IsolatedAsyncioTestCase):
         self.desk = support.Desk(book)
         self.addCleanup(self.desk.kill)
         self.copy = DeskCopy(str(support.PROGRAM), book)
-        keeping = asyncio.create_task(self.copy.keep())
         self.addAsyncCleanup(self.copy.end)
-        self.addCleanup(keeping.cancel)
         self.office = Office(book, new_state(book), Desk(self.desk.url), self.copy, Journal(None))
         self.state = self.office.state
 

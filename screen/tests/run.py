@@ -8,8 +8,6 @@ once, and makes a book of a year (some minutes; SCREEN_YEAR=FILE names one that 
 missing the last line says which, and that the tests weren't run.
 """
 
-from __future__ import annotations
-
 import argparse
 import importlib.util
 import os

@@ -1,7 +1,5 @@
 """For the screen's tests: books, desks and screens in folders that go away."""
 
-from __future__ import annotations
-
 import atexit
 import itertools
 import json
@@ -9,6 +7,7 @@ import os
 import shutil
 import signal
 import socket
+import ssl
 import subprocess
 import sys
 import tempfile
@@ -17,7 +16,8 @@ import time
 import unittest
 import urllib.error
 import urllib.request
-from collections.abc import Callable, Sequence
+from collections.abc import Callable, Iterable, Sequence
+from contextlib import suppress
 from datetime import datetime, timedelta, timezone
 from functools import lru_cache, partial
 from pathlib import Path
@@ -31,6 +31,7 @@ PROGRAM = Path(os.environ.get("OUTAGEBOOK", ROOT / "crates/outagebook/out/outage
 sys.path.insert(0, str(SCREEN))
 
 FORTNIGHT = ("2025-03-24", "14", "CET-1CEST,M3.5.0,M10.5.0/3")
+FIRST, END = 1_742_770_800, 1_743_976_800  # of the fortnight
 
 
 @lru_cache(maxsize=None)
@@ -52,34 +53,35 @@ def output_of(*words: object) -> bytes:
     return subprocess.run(list(map(str, words)), check=True, capture_output=True).stdout
 
 
-def new_book(name: str, text: Path | None = None, period: tuple[str, str, str] = FORTNIGHT) -> Path:
+def new_book(name: str, text: str = "", period: tuple[str, str, str] = FORTNIGHT) -> Path:
     """A book of a text in a folder of its own."""
-    place = folder() / name
-    place.mkdir()
-    book = place / "book.db"
+    book, rows = folder() / name / "book.db", folder() / name / "rows.csv"
+    book.parent.mkdir()
     first, days, zone = period
     run("init", "--book", book, "--first", first, "--days", days, "--zone", zone)
-    if text is not None:
-        run("import", "--book", book, text)
+    if text:
+        rows.write_text(text)
+        run("import", "--book", book, rows)
     return book
 
 
-@lru_cache(maxsize=None)
-def made(name: str, text: Path, period: tuple[str, str, str]) -> Path:
-    """The folder of a book that is imported once, and copied for each test; SCREEN_BOOKS keeps it for later runs."""
-    kept = os.environ.get("SCREEN_BOOKS")
-    if not kept:
-        return new_book(f"made-{name}", text, period).parent
-    place = Path(kept) / name
-    if not place.exists():
-        shutil.copytree(new_book(f"made-{name}", text, period).parent, place)
-    return place
+def copied(name: str, what: str, text: str, period: tuple[str, str, str]) -> Path:
+    """A copy of a book that is imported once, in a folder of its own; SCREEN_BOOKS keeps that one for later runs."""
+    made = Path(os.environ.get("SCREEN_BOOKS", folder())) / f"{what}-{period[0]}"
+    if not made.exists():
+        shutil.move(new_book(f"made-{what}", text, period).parent, made)
+    shutil.copytree(made, folder() / name)
+    return folder() / name / "book.db"
 
 
 def fortnight(name: str) -> Path:
-    """The sample's book in a folder of its own."""
-    shutil.copytree(made("fortnight", FORTNIGHT_FILES / "fortnight.csv", FORTNIGHT), folder() / name)
-    return folder() / name / "book.db"
+    """The sample's book."""
+    return copied(name, "fortnight", (FORTNIGHT_FILES / "fortnight.csv").read_text(), FORTNIGHT)
+
+
+def text_of(rows: Iterable[str]) -> str:
+    """The text of an import."""
+    return "\n".join(["kind,ref,f1,f2,f3,f4,f5,f6", *rows, ""])
 
 
 SMALL = """kind,ref,f1,f2,f3,f4,f5,f6
@@ -94,11 +96,6 @@ connect,N8,2,MILL,0,,,
 connect,N9,3,MILL,0,,,
 """
 LAST_OF_SMALL = 9  # its last command
-
-
-def small(name: str, days_ago: int = 7) -> Path:
-    """A book of two sections, whose fortnight began some days ago: its desk is quick to start."""
-    return live(name, "small", SMALL, days_ago)
 
 
 def storm_text(feeders: int = 3, branches: int = 4, length: int = 1) -> str:
@@ -120,16 +117,13 @@ def storm_text(feeders: int = 3, branches: int = 4, length: int = 1) -> str:
             count = 1 + (feeder + branch + step - 2) % 9
             add(f"MILL-{names[step - 1]}", f"LBS-{names[step - 1]}", above, count, feeder)
     rows += [f"connect,C{number},{number},{section},0,,," for number, section in enumerate(customers, 1)]
-    return "\n".join(["kind,ref,f1,f2,f3,f4,f5,f6", *rows]) + "\n"
+    return text_of(rows)
 
 
-def live(name: str, what: str, text: str, days_ago: int = 7) -> Path:
-    """A book whose fortnight began some days ago."""
-    first = (datetime.now(timezone.utc).date() - timedelta(days=days_ago)).isoformat()
-    path = folder() / f"{what}.csv"
-    path.write_text(text)
-    shutil.copytree(made(f"{what}-{first}", path, (first, *FORTNIGHT[1:])), folder() / name)
-    return folder() / name / "book.db"
+def live(name: str, what: str = "small", text: str = SMALL) -> Path:
+    """A book whose fortnight began seven days ago; that of two sections has a desk that is quick to start."""
+    first = (datetime.now(timezone.utc).date() - timedelta(days=7)).isoformat()
+    return copied(name, what, text, (first, *FORTNIGHT[1:]))
 
 
 WAIT_SECONDS = 90  # as long as a busy machine may take; what comes sooner isn't waited for
@@ -179,11 +173,13 @@ class Desk:
         return status, json.loads(body)
 
 
-def call(url: str, body: bytes | None = None, headers: dict[str, str] | None = None) -> tuple[int, bytes]:
+def call(
+    url: str, body: bytes | None = None, headers: dict[str, str] | None = None, tls: ssl.SSLContext | None = None
+) -> tuple[int, bytes]:
     """The status and the body of a request."""
     request = urllib.request.Request(url, data=body, headers={"Connection": "close", **(headers or {})})
     try:
-        with urllib.request.urlopen(request, timeout=60) as reply:
+        with urllib.request.urlopen(request, timeout=60, context=tls) as reply:
             return reply.status, reply.read()
     except urllib.error.HTTPError as error:
         with error:
@@ -219,20 +215,20 @@ class Client:
             raise AssertionError(shown)
         return shown
 
-    def switch(self, position: str, device: str, cause: int = 1, second: int | None = None, crew: str = "BERT") -> Any:
-        """A switching, now or at a second: what the page is told."""
-        at = str(second or int(time.time()))
+    def switch(
+        self, position: str, device: str, cause: int = 1, second: int = 0, ago: int = 0, crew: str = "BERT"
+    ) -> Any:
+        """A switching, some seconds ago or at a second: what the page is told."""
+        at = str(second or int(time.time()) - ago)
         return self.send(kind="switch", f1=device, f2=position, f3=at, f4=str(cause), f5=crew)
 
     def entries(self) -> list[Any]:
         """The first rows of the switching log, newest first."""
-        found: list[Any] = self.call("/api/sheet")[1]["rows"]
-        return found
+        return list(self.call("/api/sheet")[1]["rows"])
 
     def number(self) -> int:
         """The last command that the screen knows."""
-        found: int = self.call("/health")[1]["number"]
-        return found
+        return int(self.call("/health")[1]["number"])
 
 
 class Screen(Client):
@@ -276,9 +272,80 @@ class Screen(Client):
         """The process of the desk that this screen started over the book, and not over a copy of it."""
         children = Path(f"/proc/{self.process.pid}/task/{self.process.pid}/children").read_text().split()
         book = str(self.book.resolve()).encode()
-        return next(
-            int(child) for child in children if book in Path(f"/proc/{child}/cmdline").read_bytes().split(b"\0")
-        )
+        return next(int(each) for each in children if book in Path(f"/proc/{each}/cmdline").read_bytes().split(b"\0"))
+
+
+class Between:
+    """A proxy before a port. It hands bytes on, counts POSTs and notes routes. It cuts the replies to some POSTs off; while it
+    has a status, it answers each request with that and a page of its own, as nginx does while the screen is away."""
+
+    def __init__(self, to: int = 0) -> None:
+        self.to, self.status, self.is_held = to, 0, False
+        self.cuts, self.posts = 0, 0
+        self.routes: list[str] = []
+        self.open: set[socket.socket] = set()
+        self.dead: set[socket.socket] = set()
+        self.socket = socket.create_server(("127.0.0.1", 0))
+        self.port = self.socket.getsockname()[1]
+        self.url = f"http://127.0.0.1:{self.port}"
+        threading.Thread(target=self.run, daemon=True).start()
+
+    def answer(self, status: int) -> None:
+        """Answers with a status from now on (0: hands on again), and cuts what is open."""
+        self.status = status
+        for each in list(self.open):
+            with suppress(OSError):
+                each.shutdown(socket.SHUT_RDWR)
+
+    def hold(self, is_held: bool) -> None:
+        """Lets all connections die, those that are open and those of the time in which it holds: none is ended."""
+        self.is_held = is_held
+        self.dead |= self.open
+
+    def run(self) -> None:
+        with suppress(OSError):  # until it is closed
+            while True:
+                client, _ = self.socket.accept()
+                threading.Thread(target=self.serve, args=(client,), daemon=True).start()
+
+    def serve(self, client: socket.socket) -> None:
+        self.open.add(client)
+        with suppress(OSError), client:
+            data = client.recv(65_536)
+            if self.status:
+                page = f"HTTP/1.1 {self.status} No\r\nContent-Type: text/html\r\nContent-Length: 2\r\n"
+                client.sendall(f"{page}Connection: close\r\n\r\nno".encode())
+            else:
+                self.hand_on(client, data)
+        self.open.discard(client)
+
+    def hand_on(self, client: socket.socket, data: bytes) -> None:
+        is_post = data.startswith(b"POST")
+        is_cut = is_post and self.cuts > 0
+        self.cuts, self.posts = self.cuts - is_cut, self.posts + is_post
+        self.routes += data.decode(errors="replace").split(" ")[1:2]
+        with socket.create_connection(("127.0.0.1", self.to)) as other:
+            other.sendall(data)
+            threading.Thread(target=pump, args=(client, other, self.is_dead), daemon=True).start()
+            pump(other, client, (lambda *_: True) if is_cut else self.is_dead)
+
+    def is_dead(self, *ends: socket.socket) -> bool:
+        if self.is_held:
+            self.dead.update(ends)
+        return not self.dead.isdisjoint(ends)
+
+    def end(self) -> None:
+        self.socket.close()
+        self.answer(502)
+
+
+def pump(source: socket.socket, to: socket.socket, is_dead: Callable[..., bool]) -> None:
+    """Hands bytes on until one side ends; a dead connection takes them and hands on none."""
+    with suppress(OSError):
+        while data := source.recv(65_536):
+            if not is_dead(source, to):
+                to.sendall(data)
+        to.shutdown(socket.SHUT_RDWR)
 
 
 class Case(unittest.TestCase):
@@ -321,83 +388,3 @@ class Case(unittest.TestCase):
         go_on = partial(os.kill, process, signal.SIGCONT)
         self.addCleanup(go_on)
         return go_on
-
-
-class Between:
-    """A proxy before a port. It hands bytes on, counts POSTs and notes routes. It cuts the replies to some POSTs off; while it
-    has a status, it answers each request with that and a page of its own, as nginx does while the screen is away."""
-
-    def __init__(self, to: int = 0) -> None:
-        self.to, self.status, self.is_held = to, 0, False
-        self.cuts, self.posts = 0, 0
-        self.routes: list[str] = []
-        self.open: set[socket.socket] = set()
-        self.dead: set[socket.socket] = set()
-        self.socket = socket.create_server(("127.0.0.1", 0))
-        self.port = self.socket.getsockname()[1]
-        self.url = f"http://127.0.0.1:{self.port}"
-        threading.Thread(target=self.run, daemon=True).start()
-
-    def answer(self, status: int) -> None:
-        """Answers with a status from now on (0: hands on again), and cuts what is open."""
-        self.status = status
-        for each in list(self.open):
-            try:
-                each.shutdown(socket.SHUT_RDWR)
-            except OSError:
-                pass
-
-    def hold(self, is_held: bool) -> None:
-        """Lets all connections die, those that are open and those of the time in which it holds: none is ended."""
-        self.is_held = is_held
-        self.dead |= self.open
-
-    def run(self) -> None:
-        while True:
-            try:
-                client, _ = self.socket.accept()
-            except OSError:
-                return
-            threading.Thread(target=self.serve, args=(client,), daemon=True).start()
-
-    def serve(self, client: socket.socket) -> None:
-        self.open.add(client)
-        try:
-            with client:
-                data = client.recv(65_536)
-                if self.status:
-                    page = f"HTTP/1.1 {self.status} No\r\nContent-Type: text/html\r\nContent-Length: 2\r\n"
-                    client.sendall(f"{page}Connection: close\r\n\r\nno".encode())
-                    return
-                is_post = data.startswith(b"POST")
-                is_cut = is_post and self.cuts > 0
-                self.cuts, self.posts = self.cuts - is_cut, self.posts + is_post
-                self.routes += data.decode(errors="replace").split(" ")[1:2]
-                with socket.create_connection(("127.0.0.1", self.to)) as other:
-                    other.sendall(data)
-                    threading.Thread(target=pump, args=(client, other, self.is_dead), daemon=True).start()
-                    pump(other, client, (lambda *_: True) if is_cut else self.is_dead)
-        except OSError:
-            pass
-        finally:
-            self.open.discard(client)
-
-    def is_dead(self, *ends: socket.socket) -> bool:
-        if self.is_held:
-            self.dead.update(ends)
-        return not self.dead.isdisjoint(ends)
-
-    def end(self) -> None:
-        self.socket.close()
-        self.answer(502)
-
-
-def pump(source: socket.socket, to: socket.socket, is_dead: Callable[..., bool]) -> None:
-    """Hands bytes on until one side ends; a dead connection takes them and hands on none."""
-    try:
-        while data := source.recv(65_536):
-            if not is_dead(source, to):
-                to.sendall(data)
-        to.shutdown(socket.SHUT_RDWR)
-    except OSError:
-        pass

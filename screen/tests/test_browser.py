@@ -3,10 +3,8 @@
 import json
 import os
 import random
-import signal
 import threading
 import time
-import unittest
 from collections import Counter
 from concurrent.futures import ThreadPoolExecutor
 from http.server import BaseHTTPRequestHandler, ThreadingHTTPServer
@@ -15,9 +13,9 @@ import browser
 import support
 from selenium.webdriver.common.keys import Keys
 from server.reader import read_rows
+from support import END, FIRST
 from test_server import LIGHTHOUSE
 
-FIRST, END = 1_742_770_800, 1_743_976_800  # of the sample fortnight
 COMMANDS = int(os.environ.get("SCREEN_COMMANDS", "24"))
 AWAY_SECONDS = float(os.environ.get("SCREEN_AWAY", "2"))  # in which the proxy answers 502
 LATE = "/enter?device=LBS-22&at=2025-04-06T23:52:00%2B02:00"
@@ -31,6 +29,7 @@ class Case(support.Case):
     browsers: list[browser.Browser] = []
     one: browser.Browser
     other: browser.Browser
+    url: str  # of the screen, or of the proxy before it, where a class has one
 
     @classmethod
     def setUpClass(cls) -> None:
@@ -38,6 +37,11 @@ class Case(support.Case):
         for each in cls.browsers:
             cls.addClassCleanup(each.end)
         cls.one, cls.other = cls.browsers
+
+    def opened(self, route: str, url: str = "") -> browser.Browser:
+        """The first browser, with a page."""
+        self.one.open((url or self.url) + route)
+        return self.one
 
 
 class Finger:
@@ -114,29 +118,6 @@ class Operators(Case):
         self.assertIn('"no":103', self.one.text(".reply"))
         self.assertEqual(self.one.complaints() + self.other.complaints(), [])
 
-    def test_two_operators_on_one_device(self) -> None:
-        """Both see what the closing gives back, and send at once: the book has it once, and each is told what their own did."""
-        screen = self.screen()
-        pages = {"ANNA": self.one, "BERT": self.other}
-        for name, page in pages.items():
-            page.open(screen.url + LATE, name)
-            page.says(".forecast", "Customer-minutes lost: \u221224")
-            page.can_send()
-        for page in pages.values():
-            page.script("setTimeout(() => document.querySelector('.send').click())")
-        for page in pages.values():
-            page.wait(lambda: page.all(".outcome .equal, .outcome .otherwise, .outcome .note"), "what became of it")
-        acted = [
-            json.loads(screen.call(f"/api/entries/{row['no']}")[1]["history"][0]["text"])["moved"]
-            for row in screen.entries()
-            if row["device"] == "LBS-22" and row["no"] > 35
-        ]
-        closed = [["cause", 5, -1440], ["feeder", 2, -1440], ["day", 13, -1440]]
-        self.assertEqual([moved for moved in acted if moved], [closed])
-        for page in pages.values():
-            said = page.text(".outcome")
-            self.assertTrue(any(each in said for each in ("As forecast", "it changed them by 0", "Not sent")), said)
-
     def test_a_form_that_changed_since_its_forecast_is_not_sent(self) -> None:
         screen = self.screen()
         self.one.open(screen.url + LATE)
@@ -188,9 +169,7 @@ class Operators(Case):
         page.wait(lambda: page.all("[data-entry='36']"), "the entry")
         for revision, (field, typed) in enumerate((("Position", "close"), ("What", "Withdraw")), 1):
             hand.go("Entry 36")
-            page.wait(
-                lambda: page.all("#detail .sender") and not page.text("#detail .outcome"), "the entry as it is now"
-            )
+            page.wait(lambda: page.all("#detail .sender") and not page.text("#detail .outcome"), "the entry as it is")
             page.says("#detail", f"36, revision {revision}")
             page.says(".forecast", "Change a field")  # nothing that changes nothing is sent
             self.assertFalse(page.find(".send").is_enabled())
@@ -219,8 +198,7 @@ class Operators(Case):
         """Somebody corrects the entry first, in the moment before the page knows of it."""
         desk = self.desk()
         screen = self.screen(desk=desk)
-        page = self.one
-        page.open(f"{screen.url}/sheet?entry=29")
+        page = self.opened("/sheet?entry=29", screen.url)
         page.says("#detail", "revision 1")
         page.fill("Time (", "2025-04-05 06:45:00")
         page.can_send()
@@ -234,16 +212,13 @@ class Operators(Case):
         page.says("#detail", "29, revision 2")
         page.wait(lambda: not page.all(".anew"), "the entry as it is now")
         page.fill("Time (", "2025-04-05 06:45:00")
-        page.wait(
-            lambda: page.find(".send").is_enabled() and "Customer-minutes lost" in page.text(".forecast"), "the button"
-        )
+        page.wait(lambda: page.find(".send").is_enabled() and "minutes lost" in page.text(".forecast"), "the button")
         page.send()
         self.assertEqual(screen.call("/api/entries/29")[1]["revision"], 3)
 
     def test_refusals_and_texts_as_text(self) -> None:
         screen = self.screen()
-        page = self.one
-        page.open(screen.url + LATE)
+        page = self.opened(LATE, screen.url)
         page.says(".forecast", "Customer-minutes lost")
         page.fill("Crew", "Ä <b>x</b>\"'&")
         page.says(".spelling", "A crew has A-Z, 0-9, - and _ alone, and not Ä, a space, <, >, /, \", ', &.")
@@ -258,12 +233,9 @@ class Operators(Case):
 
     def test_hours_of_the_books_zone(self) -> None:
         rows = ("section,N1,S1,1,,,,", "device,N2,B1,GRID,S1,closed,,", "connect,N3,1,S1,0,,,", "cause,N4,1,TREE,,,,")
-        text = support.folder() / "autumn.csv"
-        text.write_text("\n".join(["kind,ref,f1,f2,f3,f4,f5,f6", *rows, ""]))
-        book = support.new_book("autumn", text, ("2025-10-20", "14", support.FORTNIGHT[2]))
+        book = support.new_book("autumn", support.text_of(rows), ("2025-10-20", "14", support.FORTNIGHT[2]))
         screen = self.screen(book=book)
-        page = self.one
-        page.open(f"{screen.url}/enter?device=B1")
+        page = self.opened("/enter?device=B1", screen.url)
         page.fill("Time (", "2025-10-26 02:30:00")
         page.says(".moment", "shows this hour twice")
         self.assertFalse(page.find(".send").is_enabled())
@@ -290,7 +262,6 @@ class Live(Case):
     """A book whose period goes on, behind a proxy: pages that hear of commands, clocks that go, answers that don't come."""
 
     proxy: support.Between
-    url: str
     last = 0  # the second of the last switching of another client
 
     @classmethod
@@ -298,7 +269,7 @@ class Live(Case):
         super().setUpClass()
         cls.proxy = support.Between()
         cls.addClassCleanup(cls.proxy.end)
-        cls.share(support.small(cls.__name__), "--host", f"127.0.0.1:{cls.proxy.port}")
+        cls.share(support.live(cls.__name__), "--host", f"127.0.0.1:{cls.proxy.port}")
         cls.proxy.to, cls.url = cls.live.port, cls.proxy.url
 
     def setUp(self) -> None:
@@ -352,8 +323,7 @@ class Live(Case):
         self.ten("window", "close", "All sections are supplied")
 
     def test_the_window_that_has_the_stream_is_closed(self) -> None:
-        page = self.one
-        page.open(f"{self.url}/")
+        page = self.opened("/")
         first = page.driver.current_window_handle
         second = self.windows(page, "window", [f"{self.url}/"])[0]
         page.says("main", "All sections are supplied")
@@ -365,8 +335,7 @@ class Live(Case):
 
     def test_after_any_answer_a_page_hears_again(self) -> None:
         """What stands before the screen answers 502, 503 or 401 for a while: the page says so, and is current afterwards."""
-        page = self.one
-        page.open(f"{self.url}/")
+        page = self.opened("/")
         page.says("main", "All sections are supplied")
         for number, (status, words) in enumerate({502: "(502)", 503: "(503)", 401: "the login"}.items()):
             self.proxy.answer(status)
@@ -406,25 +375,21 @@ class Live(Case):
                     self.assertTrue(-1 <= top < top + high <= page.height, (each, top, high))
                 page.script("localStorage.clear(); window.scrollTo(0, 0)")
                 page.click(".alarm summary")  # all of its words
-                words = (
-                    "const words = document.querySelector('.alarm p'); return words.scrollHeight - words.clientHeight"
-                )
+                words = "const it = document.querySelector('.alarm p'); return it.scrollHeight - it.clientHeight"
                 self.assertLessEqual(page.script(words), 1)
                 self.proxy.answer(0)
                 page.quiet()
 
     def test_a_question_has_a_limit_of_time(self) -> None:
         """A server that says nothing keeps no page waiting."""
-        page = self.one
-        page.open(f"{self.url}/")
+        page = self.opened("/")
         self.stop(self.live.process.pid)
         ask = "return import('/static/common.js').then(({ get }) => get('/api/now', {}, 1)).catch((trouble) => trouble.message)"
         self.assertIn("no answer within 1 seconds", page.script(ask))
 
     def test_a_desk_that_is_stopped_is_told_of(self) -> None:
         """It takes connections and answers nothing: every page says so, also one that sends nothing, until it goes on."""
-        page = self.one
-        page.open(f"{self.url}/")
+        page = self.opened("/")
         go_on = self.stop(self.live.desk_process())
         said = page.says(".alarm", "The desk is away: nothing can be saved now")
         self.assertIn("no answer within 10 seconds", said)
@@ -456,11 +421,10 @@ class Live(Case):
 
     def test_commands_without_an_answer_stay_in_the_head_of_every_page(self) -> None:
         """The desk hangs; the pages that sent are left: the commands are shown until they are answered, and act once."""
-        page = self.one
         self.switch("open")
         entry = self.live.entries()[0]["no"]
         before = self.live.number()
-        page.open(f"{self.url}/sheet?entry={entry}&withdraw=yes")
+        page = self.opened(f"/sheet?entry={entry}&withdraw=yes")
         page.can_send()
         go_on = self.stop(self.live.desk_process())
         page.probe("slowLocks")
@@ -489,8 +453,7 @@ class Live(Case):
         self.assertEqual(page.text(".unanswered"), "")
 
     def test_the_time_is_now_until_one_is_typed(self) -> None:
-        page = self.one
-        page.open(f"{self.url}/enter?device=LBS-1")
+        page = self.opened("/enter?device=LBS-1")
         page.says(".moment", "Now: this clock goes on")
         opened = int(time.time())
         seen = page.value("Time (")
@@ -510,8 +473,7 @@ class Live(Case):
         self.assertEqual(page.value("Time ("), typed)
 
     def test_a_time_to_come_is_asked_about(self) -> None:
-        page = self.one
-        page.open(f"{self.url}/enter?device=LBS-1&at={int(time.time()) + 4 * 3_600}")
+        page = self.opened(f"/enter?device=LBS-1&at={int(time.time()) + 4 * 3_600}")
         page.fill("Cause", "1")
         page.says(".hint", "in the future")
         self.assertFalse(page.find(".send").is_enabled())
@@ -524,8 +486,7 @@ class Live(Case):
         self.live.send(kind="withdraw", f1=str(planned), f2="1")
 
     def test_the_enter_key_sends(self) -> None:
-        page = self.one
-        page.open(f"{self.url}/enter?device=LBS-1&at={self.second()}")
+        page = self.opened(f"/enter?device=LBS-1&at={self.second()}")
         page.says("form", "LBS-1 is closed then")
         page.field("Crew").send_keys(Keys.ENTER)
         page.says(".outcome", "Fill in the fields")
@@ -543,9 +504,8 @@ class Live(Case):
         self.assertEqual(self.live.call(f"/api/entries/{entry}")[1]["crew"], "ANNA-2")
 
     def test_a_search_says_what_it_found(self) -> None:
-        page = self.one
         self.switch("close")
-        page.open(f"{self.url}/sheet")
+        page = self.opened("/sheet")
         page.fill("Section", "0303")
         page.says("main", "no section has 0303 in its name")
         page.click(".clear")
@@ -565,9 +525,8 @@ class Live(Case):
 
     def test_what_was_shown_and_what_it_did(self) -> None:
         """Another's opening comes between the forecast and its sending: that is said first, with a way back."""
-        page = self.one
         at = self.second()
-        page.open(f"{self.url}/enter?device=LBS-1&at={at}")
+        page = self.opened(f"/enter?device=LBS-1&at={at}")
         page.fill("Cause", "1")
         page.says(".forecast", "LOSES supply")
         page.can_send()
@@ -585,9 +544,8 @@ class Live(Case):
         self.assertFalse(self.live.entries()[0]["kept"])
 
     def test_open_outages_are_said_where_they_count_to_the_periods_end(self) -> None:
-        page = self.one
         self.switch("open")
-        page.open(f"{self.url}/year")
+        page = self.opened("/year")
         page.says(".open-outages", "1 outage is open and counts to the period's end")
         shown = [each.get_attribute("class") for each in page.all("main section")]
         self.assertEqual(shown[:2], ["to-now", "whole"])
@@ -597,39 +555,24 @@ class Live(Case):
         self.assertLessEqual(last[:10], time.strftime("%Y-%m-%d", time.gmtime(time.time() + 7_200)))
         self.switch("close")
         page.says(".open-outages", "No outage is open.")
+        page.fill("Day", self.live.call("/api/book")[1]["today"])
+        page.says(".forecast .unmarked", "SAIDI without major event days: up to now")
+        self.assertNotIn("lost", page.text(".forecast"))
         page.open(f"{self.url}/enter?device=LBS-1")
         page.fill("Cause", "1")
         page.says(".forecast .open-end", "Counted to the period's end")
 
     def test_a_closing_under_an_open_device_says_why(self) -> None:
-        page = self.one
         self.switch("open")
         self.switch("open", "CB-1")
-        page.open(f"{self.url}/enter?device=LBS-1&at={self.second()}")
+        page = self.opened(f"/enter?device=LBS-1&at={self.second()}")
         page.says("form", "LBS-1 is open then")
         page.says(".forecast", "No section loses or gets back supply")
         page.says(".forecast .reason", "Still cut off: above it CB-1 is open since 20")
 
-    def test_a_mark_says_what_it_moves(self) -> None:
-        page = self.one
-        page.open(f"{self.url}/year")
-        page.fill("Day", self.live.call("/api/book")[1]["today"])
-        page.says(".forecast .unmarked", "SAIDI without major event days: up to now")
-        self.assertNotIn("lost", page.text(".forecast"))
 
-
-OLD_WORDS = [
-    "Desk: here",
-    " commands,",
-    "W moves",
-    "moved W",
-    "not told yet",
-    "told anew",
-    "stands",
-    "2025-04-05",
-    "Sheet",
-]
-OLD_WORDS += ["clock of the book's zone", "From that second on", "Another second", "Set its life", "unmarked"]
+OLD_WORDS = ["Desk: here", " commands,", "W moves", "moved W", "not told yet", "told anew", "stands", "2025-04-05"]
+OLD_WORDS += ["clock of the book's zone", "From that second on", "Another second", "Set its life", "unmarked", "Sheet"]
 
 
 class Storm(Case):
@@ -640,20 +583,16 @@ class Storm(Case):
         super().setUpClass()
         book = support.live(cls.__name__, "storm", support.storm_text())
         cls.share(book, "--name", "North <2026>", "--training")
+        cls.url = cls.live.url
         for device, cause in {"LBS-11": 1, "CB-2": 2, "LBS-31": 2, "LBS-34": 1, "LBS-21": 2}.items():
-            cls.switch("open", device, cause)
-
-    @classmethod
-    def switch(cls, position: str, device: str, cause: int = 1, seconds_back: int = 600) -> None:
-        cls.live.switch(position, device, cause, int(time.time()) - seconds_back)
+            cls.live.switch("open", device, cause, ago=600)
 
     def devices(self, page: browser.Browser) -> list[str]:
         return [row[0] for row in page.probe("outages")]
 
     def test_a_row_is_an_outage_and_the_largest_comes_first(self) -> None:
         """What a breaker cut off is one row; what lay without supply before it is that of its own switching."""
-        page = self.one
-        page.open(f"{self.live.url}/")
+        page = self.opened("/")
         page.says("main h2", "4 outages")
         largest = [["CB-2", "19"], ["LBS-34", "7"], ["LBS-31", "4"], ["LBS-11", "2"]]
         self.assertEqual([row[:2] for row in page.probe("outages")], largest)
@@ -669,8 +608,7 @@ class Storm(Case):
         page.says(".forecast", "gets back supply")
 
     def test_a_filter_stands_in_the_address(self) -> None:
-        page = self.one
-        page.open(f"{self.live.url}/")
+        page = self.opened("/")
         page.fill("Feeder", "3")
         page.wait(lambda: self.devices(page) == ["LBS-34", "LBS-31"], "feeder 3")
         page.fill("Cause", "2")
@@ -686,14 +624,13 @@ class Storm(Case):
 
     def test_rows_stay_while_somebody_reads_them(self) -> None:
         """A larger outage comes while a text is selected, or the pointer is on a row: no row moves until that ends."""
-        page = self.one
-        page.open(f"{self.live.url}/?order=newest")
+        page = self.opened("/?order=newest")
         page.wait(lambda: len(self.devices(page)) == 4, "the outages")
         before = page.probe("outages")
         row = page.find("[data-key=entry-1]")
         page.script("arguments[0].mark = 'mine'; getSelection().selectAllChildren(arguments[0].cells[0]);", row)
-        self.addCleanup(self.switch, "close", "CB-1", 1, 1)
-        self.switch("open", "CB-1", 1, 2)
+        self.addCleanup(self.live.switch, "close", "CB-1", ago=1)
+        self.live.switch("open", "CB-1", ago=2)
         page.wait(lambda: len(self.devices(page)) == 5, "the new one")
         self.assertEqual(page.probe("outages")[:4], before)
         self.assertTrue(page.script("return String(getSelection()).trim() === 'LBS-11'"))
@@ -702,7 +639,7 @@ class Storm(Case):
         self.assertEqual(page.script("return document.querySelector('[data-key=entry-1]').mark"), "mine")
         page.point_at(page.find("[data-key=entry-1]"))
         before = page.probe("outages")
-        self.switch("close", "CB-1", 1, 1)
+        self.live.switch("close", "CB-1", ago=1)
         page.says("[data-key] .no-print:last-child", "supplied again")
         self.assertEqual([row[3] for row in page.probe("outages")], [row[3] for row in before])
         page.point_at(page.find("h1"))
@@ -735,8 +672,7 @@ class Storm(Case):
 
     def test_a_forecast_is_a_few_lines(self) -> None:
         """Sections stand in one list below what happens to them and when; amounts and the reply are folded."""
-        page = self.one
-        page.open(f"{self.live.url}/enter?device=CB-3&at={int(time.time()) - 60}")
+        page = self.opened(f"/enter?device=CB-3&at={int(time.time()) - 60}")
         page.fill("Cause", "2")
         told = page.says(".forecast", "LOSES supply from")
         self.assertEqual(len(page.all(".forecast .group")), 1)
@@ -760,33 +696,13 @@ class Breaks(Case):
         self.assertEqual(desk.get("/commands/103")["no"], 103)
         self.assertEqual(support.call(f"{desk.url}/commands/104")[0], 404)
 
-    def test_the_desk_is_killed_while_a_command_waits(self) -> None:
-        screen = self.screen()
-        page = self.one
-        page.open(screen.url + LATE)
-        page.can_send()
-        os.kill(screen.desk_process(), signal.SIGKILL)
-        page.click(".send")
-
-        def is_saved() -> bool:
-            """As an operator does: where the next desk took more than 25 seconds to begin, it is sent again."""
-            if page.all(".outcome .again"):
-                page.click(".outcome .again")
-            return "(command 103)" in page.text(".outcome")
-
-        page.wait(is_saved, "the reply")
-        page.says(".outcome .equal", "As forecast")
-        page.says(".state", "Connected")
-        self.assertEqual(screen.number(), 103)
-
     def test_the_screen_is_killed_while_a_command_is_in_work(self) -> None:
         desk = self.desk()
         proxy = support.Between(desk.port)
         self.addCleanup(proxy.end)
         words = ("--desk", proxy.url)
         first = support.Screen(desk.book, *words)
-        page = self.one
-        page.open(first.url + LATE)
+        page = self.opened(LATE, first.url)
         page.can_send()
         proxy.cuts = 1_000
         page.click(".send")
@@ -856,9 +772,7 @@ class Pages(Case):
             fields.append(f"device,R,{word}-D{number},{nodes},{normal},,")
         fields += [f"connect,R,1,{word}-S1,0,,,", f"switch,R,{word}-D1,open,2025-03-25T10:00:00+01:00,1,{'M' * 16},"]
         rows = [row.replace(",R,", f",{'R' * 38}{number:02},", 1) for number, row in enumerate(fields)]
-        text = support.folder() / "long.csv"
-        text.write_text("\n".join(["kind,ref,f1,f2,f3,f4,f5,f6", *rows, ""]))
-        screen = self.screen(book=support.new_book("long-names", text))
+        screen = self.screen(book=support.new_book("long-names", support.text_of(rows)))
         for page in self.browsers:
             for route in ("/", "/sheet?entry=1", f"/enter?device={word}-D1", "/network", "/year", SHIFT):
                 page.open(screen.url + route, "M" * 16)
@@ -892,8 +806,7 @@ class Pages(Case):
 
     def test_a_tie_joins_and_a_day_is_marked(self) -> None:
         screen = self.screen()
-        page = self.one
-        page.open(f"{screen.url}/network")
+        page = self.opened("/network", screen.url)
         page.fill("Name of the new device", "TIE-3")
         page.fill("From node", "MILL-LANE")
         page.fill("To node", "LIGHTHOUSE")
@@ -974,8 +887,7 @@ class Origins(Case):
         threading.Thread(target=server.serve_forever, daemon=True).start()
         self.addCleanup(server.server_close)
         self.addCleanup(server.shutdown)
-        page = self.one
-        page.open(f"{screen.url}/")
+        page = self.opened("/", screen.url)
         screen.log_in("ANNA")
         body = json.dumps({**LIGHTHOUSE, "ref": "SCR-ANNA-1"})
         for host in ("127.0.0.1", "localhost"):  # the same site on another port, and another site
@@ -1023,16 +935,8 @@ class Crowd(Case):
         chance = random.Random(3)
         for number in range(COMMANDS // 4):
             device, position = chance.choice(["CB-2", "TIE-1", "LBS-11"]), chance.choice(["open", "close"])
-            command = {
-                "kind": "switch",
-                "ref": f"CURL-{number}",
-                "f1": device,
-                "f2": position,
-                "f4": "2",
-                "f5": "CREW-9",
-            }
-            command["f3"] = str(chance.randrange(FIRST, END))
-            data = json.dumps(command)
+            fields = {"f1": device, "f2": position, "f3": str(chance.randrange(FIRST, END)), "f4": "2", "f5": "CREW-9"}
+            data = json.dumps({"kind": "switch", "ref": f"CURL-{number}", **fields})
             support.output_of("curl", "-s", "-S", "--fail", "--data-binary", data, f"{desk.url}/commands")
             if number == COMMANDS // 8:
                 support.call(f"{desk.url}/import", (support.FORTNIGHT_FILES / "corrections.csv").read_bytes())
@@ -1069,7 +973,3 @@ class Crowd(Case):
         page.wait(answered, "the reply")
         told = page.text(".outcome")
         self.assertTrue("As forecast" in told or "the book had changed in between" in told, told)
-
-
-if __name__ == "__main__":
-    unittest.main()

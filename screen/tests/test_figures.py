@@ -2,7 +2,6 @@
 gives nothing. By hand, and against a desk whose book ends there."""
 
 import random
-import unittest
 import unittest.mock
 from fractions import Fraction
 from pathlib import Path
@@ -11,15 +10,14 @@ from typing import Any
 import offices
 import support
 from server import forecasts, to_now, year
-
-FIRST, END = 1_742_770_800, 1_743_976_800  # of the sample fortnight
+from support import END, FIRST
 
 
 class Figures(offices.Case):
     """One customer at QUAY and two at MILL, behind LBS-1."""
 
     async def asyncSetUp(self) -> None:
-        await self.begin(support.small(self._testMethodName))
+        await self.begin(support.live(self._testMethodName))
         self.start = self.state.period.bounds[2]
 
     async def switch(self, device: str, position: str, at: int) -> None:
@@ -58,8 +56,7 @@ class Figures(offices.Case):
     async def test_open_outages_are_counted_by_what_cut_them_off(self) -> None:
         async def count() -> int:
             with unittest.mock.patch("time.time", return_value=self.start + 60.0):
-                found: int = (await to_now.to_now_view(self.office))["open"]
-                return found
+                return int((await to_now.to_now_view(self.office))["open"])
 
         self.assertEqual(await count(), 0)
         await self.switch("LBS-1", "open", 0)
@@ -89,7 +86,7 @@ class Figures(offices.Case):
 class Shorter(offices.Case):
     async def test_they_are_those_of_a_book_that_ends_there(self) -> None:
         """Random switchings in the sample's network: a book of the first days alone says what the longer one says up to them."""
-        chance, rows = random.Random(8), (support.FORTNIGHT_FILES / "fortnight.csv").read_text().splitlines()
+        chance, rows = random.Random(8), (support.FORTNIGHT_FILES / "fortnight.csv").read_text().splitlines()[1:]
         said = [row for row in rows if row.split(",")[0] not in ("switch", "correct", "withdraw")]
         devices = [row.split(",")[2] for row in said if row.startswith("device,")]
         seconds = [chance.randrange(FIRST, END) for _ in range(150)]
@@ -112,11 +109,5 @@ class Shorter(offices.Case):
 
 def book_of(name: str, rows: list[str], days: int) -> Path:
     """A book of the sample's first days."""
-    text = support.folder() / f"{name}.csv"
-    text.write_text("".join(f"{row}\n" for row in rows))
     first, _, zone = support.FORTNIGHT
-    return support.new_book(name, text, (first, str(days), zone))
-
-
-if __name__ == "__main__":
-    unittest.main()
+    return support.new_book(name, support.text_of(rows), (first, str(days), zone))

@@ -3,18 +3,16 @@ and the copy that follows the desk answers as it does."""
 
 import os
 import random
-import unittest
 import unittest.mock
-from collections.abc import Callable
 from typing import Any
 
 import offices
 import support
 from server import diagram, forecasts, outage, reader, state
 from server.office import new_state
+from support import END, FIRST
 
 COMMANDS = int(os.environ.get("SCREEN_FORECASTS", "300"))
-FIRST, END = 1_742_770_800, 1_743_976_800
 Step = list[str]
 
 
@@ -52,17 +50,17 @@ class Forecasts(offices.Case):
         action, cause = self.random.choice(["open", "close"]), str(self.random.randint(1, 8))
         ends = [node[0] for node in self.random.sample(self.state.nodes, 2)]
         sections = [name for name, kind, _ in self.state.nodes if kind == 2]
-        makers: dict[str, Callable[[], list[str]]] = {
-            "switch": lambda: [device, action, str(self.moment()), cause, "CREW-1"],
-            "correct": lambda: [*self.any_entry(), action, str(self.moment()), cause, "CREW-2"],
-            "withdraw": lambda: [*self.any_entry()],
-            "life": lambda: [device, *self.life()],
-            "device": lambda: [f"D-{number}", *ends, self.random.choice(["open", "closed"]), *self.life()],
-            "section": lambda: [f"S-{number}", str(self.random.randint(1, 3))],
-            "connect": lambda: [str(number + 1), self.random.choice(sections), *self.life()],
-            "revise": lambda: [str(self.random.choice(list(self.state.customers))), *self.life()],
+        fields = {
+            "switch": [device, action, str(self.moment()), cause, "CREW-1"],
+            "correct": [*self.any_entry(), action, str(self.moment()), cause, "CREW-2"],
+            "withdraw": [*self.any_entry()],
+            "life": [device, *self.life()],
+            "device": [f"D-{number}", *ends, self.random.choice(["open", "closed"]), *self.life()],
+            "section": [f"S-{number}", str(self.random.randint(1, 3))],
+            "connect": [str(number + 1), self.random.choice(sections), *self.life()],
+            "revise": [str(self.random.choice(list(self.state.customers))), *self.life()],
         }
-        return kind, makers[kind]()
+        return kind, fields[kind]
 
     async def forecast(self, kind: str, fields: Step) -> dict[str, Any] | None:
         try:
@@ -81,9 +79,8 @@ class Forecasts(offices.Case):
     def steps(self) -> list[Step]:
         """Some switchings, as the steps of an outage."""
         names = [each.name for each in self.state.devices[:5]]
-        made = (
-            [self.random.choice(names), self.random.choice(["open", "close"]), str(self.moment())] for _ in range(6)
-        )
+        choice = self.random.choice
+        made = ([choice(names), choice(["open", "close"]), str(self.moment())] for _ in range(6))
         return [["switch", *step, "5", "CREW-3"] for step in made][: self.random.randint(2, 6)]
 
     def changes(self) -> list[Step]:
@@ -250,7 +247,3 @@ class Alone(unittest.TestCase):
         ):
             with self.assertRaises(state.Refused, msg=wrong[:40]):
                 outage.steps_in(wrong)
-
-
-if __name__ == "__main__":
-    unittest.main()

@@ -4,7 +4,6 @@ import json
 import shlex
 import shutil
 import subprocess
-import unittest
 from pathlib import Path
 
 import support
@@ -74,7 +73,3 @@ class Installed(support.Case):
         other = support.folder() / "other.db"
         other.write_text("no book")
         self.assertIn("fault 21 Store", status("--book", str(other), "--program", program)[1])
-
-
-if __name__ == "__main__":
-    unittest.main()

@@ -19,6 +19,7 @@ import browser
 import support
 
 SECONDS = float(os.environ.get("SCREEN_SECONDS", "8"))
+IS_LONG = os.environ.get("SCREEN_YEAR") or os.environ.get("SCREEN_LONG")
 CLIENTS = 20
 TIMES = 5
 SEARCH = "/api/sheet?section=SECTION-7"
@@ -102,9 +103,7 @@ class Load(support.Case):
         words = f"by {CLIENTS} clients, each told to {CLIENTS} pages"
         print(f"{len(answers)} commands in {SECONDS:.0f} s {words}", flush=True)
 
-    @unittest.skipUnless(
-        os.environ.get("SCREEN_YEAR") or os.environ.get("SCREEN_LONG"), "the made year takes its minutes"
-    )
+    @unittest.skipUnless(IS_LONG, "the made year takes its minutes")
     def test_a_year(self) -> None:
         book = year()
         desk = self.desk(book)
@@ -171,7 +170,3 @@ class Load(support.Case):
         page.wait(lambda: page.find(".diagram-place").get_attribute("aria-busy") == "false", "the whole diagram")
         self.assertEqual(len(page.all(".diagram a")), 1_500)
         self.assertEqual(page.complaints(), [])
-
-
-if __name__ == "__main__":
-    unittest.main()

@@ -70,16 +70,14 @@ class Outages(Case):
 
     def saved(self) -> list[dict[str, Any]]:
         """The entries, in the order in which they came."""
-        rows: list[dict[str, Any]] = self.live.call("/api/sheet")[1]["rows"]
-        return sorted(rows, key=lambda row: int(row["no"]))
+        return self.live.entries()[::-1]
 
     def test_three_restorations_by_seventy_keys_and_one_send(self) -> None:
         """Meanwhile nobody is shown that it goes on; then it is undone at once."""
-        page = self.one
         self.other.open(f"{self.url}/", "BERT")
         self.other.says("main", "All sections are supplied")
         self.other.record("main")
-        page.open(f"{self.url}/")
+        page = self.opened("/")
         self.press(page, "n")
         page.find(".sender")
         page.ready()
@@ -123,7 +121,7 @@ class Outages(Case):
         page.says(".outcome .equal", "As forecast")
         self.assertEqual(page.probe("cutOff"), [])
         self.assertEqual(self.words(), ["CB-2 close", "CB-2 open"])
-        self.assertRegex(self.saved()[0]["commands"][0]["ref"], r"SCR-ANNA-2026_17_[A-Z2-9]{8}")
+        self.assertRegex(self.saved()[0]["reference"], r"SCR-ANNA-2026_17_[A-Z2-9]{8}")
         page.open(f"{self.url}/sheet?entry=2")
         page.says("main table", "2026_17")
         page.says("#detail .remark", "A tree on the line.")
@@ -155,7 +153,7 @@ class Outages(Case):
         page.click(".again-above")
         page.says(".unanswered", "Saved as commands")
         self.assertEqual(self.words(), SENT)
-        references = {row["commands"][0]["ref"] for row in self.saved()}
+        references = {row["reference"] for row in self.saved()}
         self.assertEqual((len(references), len({names.outage_in(each) for each in references})), (len(SENT), 1))
         page.reload()
         self.assertEqual(page.text(".unanswered"), "")
@@ -216,9 +214,7 @@ class Outages(Case):
             page.ready()
             self.forecast(page, 2)
             found = page.script(steps)
-            self.assertEqual(
-                [[device, position] for device, _, position in found], [["cb-1", "close"], ["lbs-11", "open"]]
-            )
+            self.assertEqual([row[::2] for row in found], [["cb-1", "close"], ["lbs-11", "open"]])
             for (_, second, _), (_, minutes_ago, _) in zip(found, STEPS):
                 self.assertIn(self.clock(minutes_ago), second.replace(":", ""))
             self.assertEqual({name: page.value(name) for name in shown}, shown)
@@ -246,8 +242,7 @@ class Outages(Case):
 
     def test_forms_that_come_back_until_they_are_sent(self) -> None:
         """A correction, a change of the network and a mark; a switching that was sent doesn't come back."""
-        page = self.one
-        page.open(f"{self.url}/enter?device=CB-1")
+        page = self.opened("/enter?device=CB-1")
         page.fill("Cause", "2")
         page.send()
         page.fill("Crew", "SOUTH")
@@ -279,9 +274,8 @@ class Outages(Case):
 
     def test_keys_for_the_whole_page(self) -> None:
         """N and / act where nobody types, and can be turned off."""
-        page = self.one
         nowhere = "document.activeElement.blur()"
-        page.open(f"{self.url}/")
+        page = self.opened("/")
         self.press(page, "/", "n", "/")
         self.assertEqual(page.value("Device, section"), "n/")
         page.open(f"{self.url}/year")
@@ -306,7 +300,3 @@ class References(unittest.TestCase):
             "": None,
         }.items():
             self.assertEqual(names.outage_in(reference), name, reference)
-
-
-if __name__ == "__main__":
-    unittest.main()

@@ -1,7 +1,6 @@
 """The screen behind nginx, with the configuration of deploy/nginx.conf: TLS, logins, who may send, a proxy that breaks."""
 
 import base64
-import http.client
 import json
 import os
 import shutil
@@ -63,17 +62,11 @@ class Nginx:
 
     def ask(self, route: str, login: str = "", body: str | None = None, **headers: str) -> tuple[int, bytes]:
         """A request by TLS."""
-        unchecked = ssl._create_unverified_context()
-        connection = http.client.HTTPSConnection("127.0.0.1", self.port, context=unchecked, timeout=30)
         told = {"Host": NAME, **{name.replace("_", "-"): value for name, value in headers.items()}}
         if login:
             told["Authorization"] = "Basic " + base64.b64encode(f"{login}:word".encode()).decode()
-        try:
-            connection.request("POST" if body else "GET", route, body, told)
-            reply = connection.getresponse()
-            return reply.status, reply.read()
-        finally:
-            connection.close()
+        data = body.encode() if body else None
+        return support.call(f"https://127.0.0.1:{self.port}{route}", data, told, ssl._create_unverified_context())
 
 
 @unittest.skipUnless(Path(NGINX).exists(), "nginx isn't installed")
@@ -145,7 +138,3 @@ class BehindNginx(support.Case):
         page.says(".outcome .equal", "As forecast")
         self.assertEqual(self.live.number(), 103)
         self.assertEqual(page.complaints(), [])
-
-
-if __name__ == "__main__":
-    unittest.main()

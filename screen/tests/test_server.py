@@ -8,7 +8,6 @@ import signal
 import socket
 import threading
 import time
-import unittest
 import urllib.parse
 from concurrent.futures import ThreadPoolExecutor
 from contextlib import suppress
@@ -87,13 +86,6 @@ class Commands(support.Case):
         self.assertEqual((withdrawn, screen.number()), (200, 104))
         self.assertIsNone(screen.call("/health")[1]["differs"])
 
-    def test_the_second_that_is_now(self) -> None:
-        """A book whose period is over is looked at, and told, at its last second."""
-        screen = self.screen()
-        last = {"second": 1_743_976_799, "text": "2025-04-06T23:59:59+02:00"}
-        self.assertEqual(screen.call("/api/second")[1], {**last, "goes": False, "gone": 0.0})
-        self.assertEqual(screen.call("/api/now")[1]["at"], last)
-
     def test_the_log_has_login_reference_and_answer(self) -> None:
         screen = self.screen(login="ANNA")
         screen.post({**LIGHTHOUSE, "ref": "SCR-ANNA-1"})
@@ -102,14 +94,10 @@ class Commands(support.Case):
         self.assertEqual({line["login"] for line in lines}, {"ANNA"})
         self.assertEqual(lines[0]["sent"]["f1"], "LBS-22")
         self.assertEqual((lines[1]["status"], lines[1]["answer"]["no"]), (200, 103))
-        shown = screen.call("/api/log")[1]
-        self.assertEqual([(row["reference"], row["login"]) for row in shown], [("SCR-ANNA-1", "ANNA")])
-        self.assertEqual(shown[0]["result"], "saved: command 103, entry 36")
 
     def test_the_whole_year_and_its_texts(self) -> None:
         screen = self.screen()
         table = (support.FORTNIGHT_FILES / "fortnight.table.txt").read_text()
-        self.assertEqual(screen.call("/api/year")[1]["text"], table)
         self.assertEqual(support.call(f"{screen.url}/download/table.txt")[1].decode(), table)
         moves = support.call(f"{screen.url}/download/moves.csv")[1]
         self.assertEqual(moves, (support.FORTNIGHT_FILES / "fortnight.moves.csv").read_bytes())
@@ -122,7 +110,7 @@ class Figures(support.Case):
 
     @classmethod
     def setUpClass(cls) -> None:
-        cls.share(support.small(cls.__name__))
+        cls.share(support.live(cls.__name__))
 
     def switch(self, seconds_ahead: int) -> Any:
         """Opens LBS-1, some seconds from now: the entry's number."""
@@ -138,10 +126,10 @@ class Figures(support.Case):
         found = {each: self.live.call(f"/api/entries/{each}")[1]["late"] for each in (ahead, entry, late)}
         self.assertEqual(found, {ahead: False, entry: False, late: True})
         now = int(time.time())
-        self.assertEqual(self.forecast(f2="close", f3=str(now))[1]["hints"], [])
-        self.assertIn("1 h", self.forecast(f2="close", f3=str(now - 3_600))[1]["hints"][0])
-        self.assertEqual(self.forecast(f3=str(now + 7_230))[1]["future"], "2 h")
-        self.assertIsNone(self.forecast(f3=str(now))[1]["future"])
+        for ahead, late, future in ((0, 0, 0), (-3_600, 3_600, 0), (7_230, 0, 7_230)):
+            shown = self.forecast(f2="close", f3=str(now + ahead))[1]
+            self.assertAlmostEqual(shown["late"], late, delta=60)
+            self.assertAlmostEqual(shown["future"], future, delta=60)
 
     def test_searches_that_cannot_be_read(self) -> None:
         self.switch(-10)
@@ -153,6 +141,9 @@ class Figures(support.Case):
             ("section=0303", "no section has 0303 in its name"),
             ("device=NOSUCH", "no device has NOSUCH in its name"),
             ("cause=99", "no cause 99"),
+            ("feeder=2", "home feeder 2"),
+            ("feeder=x", "home feeder x"),
+            ("crew=%C3%84", "crew Ä can't be read"),
             ("marked=odd", "odd"),
             ("order=odd", "odd"),
         ):
@@ -201,9 +192,7 @@ class Reports(support.Case):
             found = [readers.submit(report) for _ in range(8)]
             support.until(calls.exists, what="a report that is being made")
             self.assertEqual(desk.post({**LIGHTHOUSE, "ref": "CURL-1"})[0], 200)
-            support.until(
-                lambda: screen.number() == 103, 2.5, "the command of another client, before the report is made"
-            )
+            support.until(lambda: screen.number() == 103, 2.5, "another client's command, before the report is made")
             self.assertFalse(any(each.done() for each in found))
         self.assertEqual({each.result() for each in found}, {200})
         before = made()
@@ -225,8 +214,7 @@ class Reports(support.Case):
             return made[0]
 
         async def all_of(kept: apart.Kept) -> list[Any]:
-            found: list[Any] = await asyncio.gather(*(kept.get() for _ in range(5)), return_exceptions=True)
-            return found
+            return list(await asyncio.gather(*(kept.get() for _ in range(5)), return_exceptions=True))
 
         async def ask() -> list[list[Any]]:
             kept = apart.Kept(lambda: version[0], make)
@@ -261,10 +249,8 @@ class Faults(support.Case):
             chance = random.Random(7)
             for _ in range(times):
                 time.sleep(chance.uniform(0.0, 0.3))
-                try:
+                with suppress(OSError, StopIteration):
                     os.kill(screen.desk_process(), signal.SIGKILL)
-                except (OSError, StopIteration):
-                    pass
                 support.until(lambda: ended.is_set() or self.has_desk(screen), what="the next desk")
             ended.set()
 
@@ -534,7 +520,3 @@ class Logins(support.Case):
         elsewhere = self.screen("--proxy", "10.0.7.1")
         self.assertEqual(elsewhere.call("/api/me", headers={"X-Remote-User": "desk-anna"})[0], 401)
         self.assertEqual(self.screen("--proxy", "127.0.0.1").call("/api/me")[0], 401)  # it names nobody
-
-
-if __name__ == "__main__":
-    unittest.main()

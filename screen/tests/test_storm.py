@@ -2,7 +2,6 @@
 
 import os
 import time
-import unittest
 from collections import Counter
 
 import browser
@@ -22,7 +21,8 @@ class Pages(test_browser.Case):
 
     def setUp(self) -> None:
         self.live = self.screen(book=support.live(self.id(), "storm", support.storm_text()), login="BERT")
-        self.live.switch("open", "LBS-22", second=int(time.time()) - 600)
+        self.url = self.live.url
+        self.live.switch("open", "LBS-22", ago=600)
 
     def test_a_new_outage_is_said(self) -> None:
         """Where, who, and how many customers: in the page's top, in the tab's title and in a list, and a click leads to its row."""
@@ -58,8 +58,7 @@ class Pages(test_browser.Case):
 
     def test_a_tab_that_nobody_looks_at(self) -> None:
         """Its title counts what is new; looked at again, it shows that."""
-        page = self.one
-        page.open(f"{self.live.url}/")
+        page = self.opened("/")
         page.probe("turn", True)
         self.live.switch("open", "CB-3")
         page.wait(lambda: page.title.startswith("(1) "), "the number in the title")
@@ -69,8 +68,7 @@ class Pages(test_browser.Case):
 
     def test_quiet_and_a_sentence_at_a_time(self) -> None:
         """In a storm a reader of the screen hears what is new in one sentence for some seconds, and nothing where that is chosen."""
-        page = self.one
-        page.open(f"{self.live.url}/enter")
+        page = self.opened("/enter")
         page.record(".news [role=status]")
         for device in ("CB-1", "LBS-31", "LBS-32", "LBS-33"):
             self.live.switch("open", device)
@@ -105,8 +103,7 @@ class Pages(test_browser.Case):
 
     def test_the_diagram_by_the_keyboard(self) -> None:
         """One stop of the tabulator; arrows along the network, to another feeder, other sizes; rows wait until it is left."""
-        page = self.one
-        page.open(f"{self.live.url}/")
+        page = self.opened("/")
         page.wait(lambda: len(page.all(".diagram a")) == 15, "the diagram")
         self.assertEqual(len(page.all(".diagram a[tabindex='0']")), 1)
         page.script("document.querySelector('.diagram a[tabindex=\"0\"]').focus()")
@@ -138,8 +135,7 @@ class Pages(test_browser.Case):
         self.assertEqual(page.value("Device"), "CB-3")
 
     def test_the_slider_says_its_time(self) -> None:
-        page = self.one
-        page.open(f"{self.live.url}/")
+        page = self.opened("/")
         slider = page.find("[type=range]")
         said = slider.get_attribute("aria-valuetext")
         self.assertEqual(said[:10], time.strftime("%Y-%m-%d", time.gmtime(time.time() + 3_600)))
@@ -148,7 +144,7 @@ class Pages(test_browser.Case):
 
     def test_three_questions_by_what_the_page_says(self) -> None:
         """Who is out on feeder 3, what happened yesterday, hand over: by words that stand there, three taps each at most."""
-        self.live.switch("open", "LBS-31", second=int(time.time()) - 86_400)
+        self.live.switch("open", "LBS-31", ago=86_400)
         for page in self.browsers:
             narrow = page is self.other
             page.open(f"{self.live.url}/")
@@ -170,8 +166,7 @@ class Pages(test_browser.Case):
             self.assertLess(page.probe("place", page.find("main button.main"))[1], 844)  # Print
 
     def test_a_customer_is_found_by_its_number(self) -> None:
-        page = self.one
-        page.open(f"{self.live.url}/network")
+        page = self.opened("/network")
         for number, words in (("7", "Customer 7: section MILL-13"), ("999", "No customer has the number 999")):
             page.fill("Customer's number", number)
             page.field("Customer's number").send_keys(Keys.ENTER)
@@ -181,10 +176,9 @@ class Pages(test_browser.Case):
         self.assertLess(tops[1], page.probe("place", page.find(".sender"))[1])  # the form is last
 
     def test_heads_of_tables_stay_in_sight(self) -> None:
-        page = self.one
         for number in range(30):
-            self.live.switch(("close", "open")[number % 2], "LBS-11", second=int(time.time()) - 500 + number)
-        page.open(f"{self.live.url}/sheet")
+            self.live.switch(("close", "open")[number % 2], "LBS-11", ago=500 - number)
+        page = self.opened("/sheet")
         page.says("main h2", "31 of 31")
         page.script("scrollTo(0, document.querySelector('tbody tr:nth-child(20)').offsetTop + 300)")
         top, head = (page.probe("place", page.find(each)) for each in (".page-top", "main thead th"))
@@ -205,7 +199,7 @@ class LargeStorm(support.Case):
     def setUp(self) -> None:
         book = support.live(self.id(), "large-storm", support.storm_text(20, 7, 7))
         self.live = self.screen(book=book, login="BERT")
-        self.live.switch("open", "LBS-11-2", second=int(time.time()) - 600)
+        self.live.switch("open", "LBS-11-2", ago=600)
         self.pages = [browser.Browser(*size) for size in SIZES]
         for page in self.pages:
             self.addCleanup(page.end)
@@ -253,15 +247,10 @@ class LargeStorm(support.Case):
         self.assertEqual(shown, [customers for _, customers in largest])
         longest = max(page.script("return window.tasks"), default=0.0) / 1000
         words = f"{processor:.3f} s of a processor for an outage at most, longest task {longest:.3f} s by the clock"
-        print(
-            f"{page.width} pixels wide: {len(keys)} rows on the first screen, {words} at load {os.getloadavg()[0]:.0f}"
-        )
+        rows = f"{page.width} pixels wide: {len(keys)} rows on the first screen"
+        print(f"{rows}, {words} at load {os.getloadavg()[0]:.0f}")
         # the longest task takes no more of a processor than all together, and no more than its own time by the clock
         self.assertLess(min(processor, longest), LONG_TASK)
         if support.limit(1) == 1:  # else a task waits for other programs
             self.assertLess(longest, LONG_TASK)
         self.assertEqual(page.complaints(), [])
-
-
-if __name__ == "__main__":
-    unittest.main()
