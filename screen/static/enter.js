@@ -108,12 +108,12 @@ class Outage {
     return found;
   }
 
-  /** Fills the form in from an entry of an outage: its device. */
+  /** Fills the form in from an entry of an outage: its device. The crew stays the one who is logged in: who opened it may be
+   * somebody else. */
   async fillFrom(number) {
     const { outage, entries } = await this.show(number);
-    const { cause, crew, device } = entries.find((entry) => entry.no === Number(number));
+    const { cause, device } = entries.find((entry) => entry.no === Number(number));
     this.cause.value = String(cause);
-    this.crew.value = crew;
     if (outage?.startsWith("_")) this.own = outage;
     else if (outage && outage.length <= ticketLetters()) this.ticket.value = outage;
     return device;

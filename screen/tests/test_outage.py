@@ -194,13 +194,14 @@ class Outages(Case):
         page.fill("Crew", "NORTH")
         page.fill("Ticket", "t-9")
         page.send()
-        follow("a.outage", "CB-3 open at", Device="", Cause="1", Crew="NORTH", Ticket="T_9")
-        follow("a.close", "CB-3 open at", Device="CB-3", Cause="1", Crew="NORTH", Ticket="T_9")
+        follow("a.outage", "CB-3 open at", Device="", Cause="1", Crew="BERT", Ticket="T_9")
+        follow("a.close", "CB-3 open at", Device="CB-3", Cause="1", Crew="BERT", Ticket="T_9")
         page.says(".forecast", "gets back supply")
         page.send()
         page.says(".saved-steps", "CB-3 close at")
         found = self.live.call("/api/outages/2")[1]
         self.assertEqual((found["outage"], [row["no"] for row in found["entries"]]), ("T_9", [1, 2]))
+        self.assertEqual([row["crew"] for row in found["entries"]], ["NORTH", "BERT"])
 
     def test_a_form_that_is_left_comes_back(self) -> None:
         """By Back, by a link and by a reload it has what was typed; in its own tab and at its own address alone."""
