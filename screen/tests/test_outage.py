@@ -97,8 +97,13 @@ class Outages(Case):
         self.other.wait(lambda: self.other.script(number) == last, "the last step")
         self.assertNotIn("cut off by", self.other.heard)
         page.click(".undo")
+        page.says(".outcome form", "Nothing is undone yet")
+        page.wait(lambda: page.find(".outcome .send").is_enabled() and page.probe("inSight", ".outcome .send"), "it")
+        self.assertEqual(page.focus.get_attribute("aria-label"), "Undo")
+        self.assertTrue(all(row["kept"] for row in self.saved()))
         page.click(".outcome .send")
         page.says(".outcome .outcome .equal", "As forecast")
+        self.assertNotIn("Nothing is undone yet", page.says(".outcome form", "Undone: "))
         self.assertFalse(any(row["kept"] for row in self.saved()))
 
     def test_an_outage_that_is_over_by_a_finger_on_a_phone(self) -> None:
