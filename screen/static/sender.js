@@ -49,7 +49,7 @@ export class Sender {
     this.outcome = el("div", { class: "outcome", role: "status", tabindex: "-1" });
     this.tick = el("input", { type: "checkbox", input: () => this.enable() });
     this.button = el("button", { type: "submit", class: "main send", disabled: true }, label);
-    this.element = el("div", { class: "sender" }, this.forecast, el("div", { class: "buttons" }, this.button), this.outcome);
+    this.element = el("div", { class: "sender" }, this.forecast, el("div", { class: "buttons" }, this.button, form ? el("span", { class: "note" }, "Enter in a field sends, too.") : ""), this.outcome);
     this.rests = false; // after an answer, until a field is changed
     const later = settled(() => this.rests || this.look());
     this.update = () => {
