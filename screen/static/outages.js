@@ -1,6 +1,6 @@
 // Outages: what one switching cut off and is still without supply, largest first; filtered and sorted by the page's address.
 import { fromAddress, toAddress } from "./address.js";
-import { breakable, BRIEF, causes, choice, duration, el, field, known, number, settled, text } from "./common.js";
+import { breakable, BRIEF, causes, choice, duration, el, field, known, lacksName, number, settled, text, toName } from "./common.js";
 import { momentFrom, ticketOf } from "./elements.js";
 import { KeyedTable } from "./keyed.js";
 
@@ -138,10 +138,12 @@ export class Outages {
     return `/enter?${new URLSearchParams({ entry: outage.entry, ...more, ...(this.at ? { at: this.at } : {}) })}`;
   }
 
-  /** The way to the form that closes the device; one that is closed lies under another that is open. */
+  /** The way to the form that closes the device, or first to that of one's name; one that is closed lies under another that is
+   * open. */
   closing(outage) {
-    if (!outage.device || !known.me.may_send) return "";
+    if (!outage.device || !(known.me.may_send || lacksName())) return "";
     if (outage.isClosed) return "closed, still cut off";
+    if (lacksName()) return { told: "name", make: () => el("a", { class: "to-name", href: "#your-name", "aria-label": `Close ${outage.device}: give your name first`, click: toName }, "Close ", el("span", { class: "note" }, "name first")) };
     const href = this.form(outage, { close: "yes" });
     return { told: href, make: () => el("a", { class: "close", href, "aria-label": `Close ${outage.device}` }, "Close") };
   }
