@@ -488,6 +488,7 @@ class Live(Case):
     def test_the_enter_key_sends(self) -> None:
         page = self.opened(f"/enter?device=LBS-1&at={self.second()}")
         page.says("form", "LBS-1 is closed then")
+        page.says(".sender", "Enter in a field sends, too")
         page.field("Crew").send_keys(Keys.ENTER)
         page.says(".outcome", "Fill in the fields")
         page.fill("Cause", "1")
