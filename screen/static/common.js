@@ -126,8 +126,16 @@ export function painted() {
   });
 }
 
+/** A select. A browser tells each choice twice, as input and as change; a program that fills in a form tells it as change
+ * alone, which counts as well. */
 export function choice(options, chosen = "") {
-  return el("select", {}, options.map(([value, text]) => el("option", { value, selected: value === chosen }, text)));
+  let isTold = false;
+  const input = () => { isTold = true; };
+  const change = ({ target }) => {
+    if (!isTold) target.dispatchEvent(new Event("input", { bubbles: true }));
+    isTold = false;
+  };
+  return el("select", { input, change }, options.map(([value, text]) => el("option", { value, selected: value === chosen }, text)));
 }
 
 export function list(id, values) {
