@@ -43,6 +43,7 @@ export class Outages {
     this.table = new KeyedTable(HEADS, "outages", "Outages, by what cut them off", "supplied again", filled);
     this.title = el("h2", {});
     this.none = el("div", { role: "status" });
+    this.whole = el("div", { class: "tile whole-book", hidden: true }, "of the whole book"); // beside figures that no field filters
     this.element = el("section", { "aria-label": "Outages", class: "list" }, this.title, this.none, this.table.element);
     this.shown = null;
   }
@@ -88,6 +89,7 @@ export class Outages {
     this.title.textContent = all.length ? `${isFiltered ? `${number(found.length)} of ` : ""}${number(all.length)} outage${all.length > 1 ? "s" : ""}` : "Outages";
     this.say(all, isFiltered);
     this.table.show(found.map((outage) => ({ key: outage.key, cells: this.cells(outage) })), { anew });
+    this.whole.hidden = !this.isAsked;
     return all.length;
   }
 
@@ -99,6 +101,12 @@ export class Outages {
     if (row) return;
     this.none.dataset.told = key; // until the rows are shown again
     this.none.replaceChildren(el("p", { class: "warn" }, this.shown.outages.some((each) => `entry-${each.entry}` === key) ? "A filter hides this outage." : "This outage is over: its sections have supply again."));
+  }
+
+  /** Whether the fields ask for some outages alone. */
+  get isAsked() {
+    const { feeder, cause, text: words } = this.wanted;
+    return Boolean(feeder || cause || words);
   }
 
   /** Nothing is out, or nothing of what is looked for; a filter that hides outages says so. */
