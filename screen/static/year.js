@@ -160,7 +160,7 @@ function reportOf(shown) {
 }
 
 begin(async () => {
-  const links = [["/report", "The printed report"], ["/download/table.txt", "Annual table"], ["/download/commands.csv", "Commands as CSV"], ["/download/moves.csv", "Moves as CSV"]];
+  const links = [["/report", "The printed report (opens another tab)"], ["/download/table.txt", "Annual table (saves a file)"], ["/download/commands.csv", "Commands as CSV (saves a file)"], ["/download/moves.csv", "Moves as CSV (saves a file)"]];
   const mark = known.me.may_send ? markForm() : null;
   main.append(
     el("div", { class: "buttons no-print" }, links.map(([href, words]) => el("a", { href, target: href === "/report" ? "_blank" : null, rel: "noopener" }, words))),
