@@ -59,9 +59,10 @@ function openBanner({ open, to_now }) {
   return el("p", { class: "warn open-outages" }, words);
 }
 
-function toNowPart(toNow) {
+function toNowPart({ to_now: toNow, open }) {
   return el("section", { class: "to-now", "aria-label": "Up to now" },
     el("h2", {}, "Up to now, ", moment(toNow.at)),
+    el("p", { class: "counted" }, `From ${known.book.days[0]} on. What is open is counted up to now${open ? `: ${number(open)} outage${open > 1 ? "s" : ""}` : ""}.`),
     el("div", { class: "tiles" }, indexTiles(toNow.indices), lost(toNow.W)));
 }
 
@@ -108,7 +109,7 @@ async function show() {
   renew(
     figures,
     openBanner(shown),
-    shown.to_now ? toNowPart(shown.to_now) : shown.why ? el("p", { class: "warn" }, `Figures up to now can't be had: ${shown.why}.`) : "",
+    shown.to_now ? toNowPart(shown) : shown.why ? el("p", { class: "warn" }, `Figures up to now can't be had: ${shown.why}.`) : "",
     wholePart(shown),
     el("div", { class: "two" },
       el("section", {}, el("h2", {}, shown.to_now ? "Indices, to the period's end" : "Indices"), table(["index", "#all", "#without major event days"], indices, "Indices"), el("p", { class: "note" }, note)),

@@ -548,8 +548,13 @@ class Live(Case):
         self.switch("open")
         page = self.opened("/year")
         page.says(".open-outages", "1 outage is open and counts to the period's end")
+        for link in page.all("main .buttons a"):
+            self.assertEqual(link.get_attribute("target") == "_blank", "opens another tab" in link.text)
+        page.says(".to-now .counted", "What is open is counted up to now: 1 outage.")
         shown = [each.get_attribute("class") for each in page.all("main section")]
         self.assertEqual(shown[:2], ["to-now", "whole"])
+        sizes = [page.find(f".{name} .tile b").value_of_css_property("font-size") for name in shown[:2]]
+        self.assertGreater(float(sizes[0][:-2]), 1.5 * float(sizes[1][:-2]))
         up_to_now, whole = (page.text(f".{name} .tile:nth-child(5) b").replace("\u2009", "") for name in shown[:2])
         self.assertLess(float(up_to_now), float(whole) / 100)
         last = max(each.text for each in page.all(".tall td") if each.text[4:5] == "-")
