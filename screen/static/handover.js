@@ -42,7 +42,7 @@ function enteredPart({ entered, entered_found }) {
     el("div", {}, [...row.done].reverse().map(done)), ["late", "corrected", "withdrawn"].filter((name) => row[name]).join(", "),
   ]);
   const heads = ["entry", "time", "device", "position", "cause", "crew", "what was done", "status"];
-  return part(`Entered or changed: ${counted(entered, entered_found)}, each as it is now`, heads, rows, "No switching was entered or changed in this time.");
+  return part(`Entered or changed: ${counted(entered, entered_found)}, each as it is now, by time of switching`, heads, rows, "No switching was entered or changed in this time.");
 }
 
 function endedPart({ ended }) {

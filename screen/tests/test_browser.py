@@ -521,8 +521,10 @@ class Live(Case):
         turns = page.says(".turns", "of 250")
         self.assertIn("Newer entries", turns)
         self.assertIn("Older entries", turns)
-        page.fill("Order", "by second")
+        page.says("main h2", "entries, by time of switching, latest first")
+        page.fill("Order", "by time of switching, earliest")
         page.says(".turns", "Earlier entries")
+        page.says("main h2", "entries, by time of switching, earliest first")
 
     def test_what_was_shown_and_what_it_did(self) -> None:
         """Another's opening comes between the forecast and its sending: that is said first, with a way back."""
