@@ -29,7 +29,6 @@ class Outage {
       read: () => this.read(),
       form: this.form,
       clock: this.steps,
-      label: "Send to the desk",
       outage: () => ({ name: this.name, remark: this.remark.value.trim() }),
       after: (_, __, intent) => this.after(intent),
       left: () => this.steps.take(),

@@ -81,7 +81,7 @@ begin(async () => {
   const print = el("button", { type: "button", class: "main", click: () => window.print() }, "Print");
   const fields = Object.entries(FIELDS).map(([name, [label, , note]]) => field(label, inputs[name], note.replace("TODAY", known.book.today)));
   const form = el("form", { class: "card short no-print", "aria-label": "Which time, and sent by whom", submit: (event) => event.preventDefault() }, el("div", { class: "row top" }, fields), el("div", { class: "buttons" }, print));
-  main.append(form, parts, markedDays(), foot(`Open outages are ${source()}; outages that ended follow from the book's rows.`));
+  main.append(form, parts, markedDays(), foot(`Open outages are ${source()}; outages that ended follow from what was entered.`));
   onCommands(show);
   await show();
 });

@@ -177,7 +177,7 @@ export class Sender {
       keep(intent); // first: what is said to be on its way is known after the page is left, too
       this.draft?.drop();
       const step = commands.length > 1 ? `, step ${replies.length + 1} of ${commands.length}` : "";
-      this.outcome.replaceChildren(el("p", { class: "ask" }, `On its way to the desk as ${command.ref}${step}.`));
+      this.outcome.replaceChildren(el("p", { class: "ask" }, `On its way as ${command.ref}${step}.`));
     };
     try {
       await sendRest(intent, onItsWay);

@@ -207,7 +207,7 @@ begin(async () => {
   Object.assign(wanted, fromAddress([...Object.keys(SEARCHED), "order"]));
   from = Number(fromAddress(["from"]).from ?? 0) || 0;
   const narrow = matchMedia("(max-width: 40rem)").matches;
-  main.append(lookOnly(), el("details", { class: "search no-print", open: !narrow }, el("summary", {}, "Search"), await filters()), detail, rows, shiftLog(), foot(`What a command changed is ${source()}, in its own reply; status and search follow from the book's rows.`));
+  main.append(lookOnly(), el("details", { class: "search no-print", open: !narrow }, el("summary", {}, "Search"), await filters()), detail, rows, shiftLog(), foot(`What a command changed is ${source()}, in its own reply; status and search follow from what was entered.`));
   onCommands(() => { show(); showLog(); lookAgain(); });
   await Promise.all([show(), showLog()]);
   const asked = new URLSearchParams(location.search);

@@ -142,7 +142,7 @@ function importForm() {
     event.preventDefault();
     if (!file.files.length) return;
     button.disabled = true;
-    report.replaceChildren(el("p", { class: "ask" }, "On its way to the desk."));
+    report.replaceChildren(el("p", { class: "ask" }, "On its way."));
     try {
       report.replaceChildren(reportOf(await post("/api/import", await file.files[0].arrayBuffer(), { type: "text/csv", seconds: IMPORT_SECONDS })));
     } catch (trouble) {

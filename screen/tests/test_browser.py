@@ -162,7 +162,7 @@ class Operators(Case):
         page.says(".hint", "late entry")
         page.says(".forecast", "LOSES supply")
         page.can_send()
-        hand.go("Send to the desk")
+        hand.go("Send")
         page.says(".outcome .equal", "As forecast")
         hand.go("Switching log")
         page.at("Switching log")
@@ -609,6 +609,8 @@ class Storm(Case):
             self.assertIn(name, page.text("[data-key=entry-2]"))
         page.fill("Order", "newest first")
         page.wait(lambda: self.devices(page)[0] == "LBS-34", "the newest one")
+        page.open(f"{self.url}/?at={int(time.time()) + 86_400}")
+        page.says("[data-key=entry-2]", self.live.entries()[-1]["second"]["text"][5:10])  # of another day: with its date
         page.driver.delete_all_cookies()
         page.open(f"{self.url}/?order=newest", None)
         self.assertEqual(page.all("a.close"), [])

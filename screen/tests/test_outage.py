@@ -122,7 +122,7 @@ class Outages(Case):
         page.fill("Remark", "A tree on the line.")
         self.forecast(page, 2)
         page.says(".ends-first", "sent first")
-        page.tap_on("Send to the desk")
+        page.tap_on("Send")
         page.says(".outcome .equal", "As forecast")
         self.assertEqual(page.probe("cutOff"), [])
         self.assertEqual(self.words(), ["CB-2 close", "CB-2 open"])
