@@ -43,7 +43,7 @@ export class Outages {
     this.table = new KeyedTable(HEADS, "outages", "Outages, by what cut them off", "supplied again", filled);
     this.title = el("h2", {});
     this.none = el("div", { role: "status" });
-    this.whole = el("div", { class: "tile whole-book", hidden: true }, "of the whole book"); // beside figures that no field filters
+    this.whole = el("div", { class: "whole-book", hidden: true }, "of the whole book"); // beside figures that no field filters
     this.element = el("section", { "aria-label": "Outages", class: "list" }, this.title, this.none, this.table.element);
     this.shown = null;
   }

@@ -15,7 +15,7 @@ export function offerUndo(place, undo) {
     const read = () => (form.isConnected ? undo.commands : null);
     const said = el("p", { class: "ask", role: "status" }, "Nothing is undone yet: it is only when you press Send the undo.");
     const after = (replies) => replies && said.replaceChildren("Undone: what was saved above is taken back.");
-    const sender = new Sender({ read, form, after, label: "Send the undo", missing: "This undo isn't offered any more." });
+    const sender = new Sender({ read, form, hasFields: false, after, label: "Send the undo", missing: "This undo isn't offered any more." });
     form.append(el("h2", {}, `Undo: ${undo.words}`), said, sender.element);
     part.replaceWith(form);
     form.focus({ preventScroll: true });

@@ -522,7 +522,7 @@ class Live(Case):
         self.assertIn("Newer entries", turns)
         self.assertIn("Older entries", turns)
         page.says("main h2", "entries, by time of switching, latest first")
-        page.fill("Order", "by time of switching, earliest")
+        page.fill("Order", "earliest switching")
         page.says(".turns", "Earlier entries")
         page.says("main h2", "entries, by time of switching, earliest first")
 
@@ -610,7 +610,8 @@ class Storm(Case):
         page.fill("Order", "newest first")
         page.wait(lambda: self.devices(page)[0] == "LBS-34", "the newest one")
         page.open(f"{self.url}/?at={int(time.time()) + 86_400}")
-        page.says("[data-key=entry-2]", self.live.entries()[-1]["second"]["text"][5:10])  # of another day: with its date
+        day = self.live.entries()[-1]["second"]["text"][5:10]
+        page.says("[data-key=entry-2]", day)  # since when, seen from another day
         page.driver.delete_all_cookies()
         page.open(f"{self.url}/?order=newest", None)
         self.assertEqual(page.all("a.close"), [])

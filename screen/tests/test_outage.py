@@ -98,6 +98,7 @@ class Outages(Case):
         self.assertNotIn("cut off by", self.other.heard)
         page.click(".undo")
         page.says(".outcome form", "Nothing is undone yet")
+        self.assertEqual(page.all(".outcome .enter-too"), [])  # it has no field
         page.wait(lambda: page.find(".outcome .send").is_enabled() and page.probe("inSight", ".outcome .send"), "it")
         self.assertEqual(page.focus.get_attribute("aria-label"), "Undo")
         self.assertTrue(all(row["kept"] for row in self.saved()))
