@@ -12,7 +12,7 @@ from .views import Json, day_name, entry_view, statuses_of, text
 PAGE_ROWS = 100
 FIELDS = ("device", "crew", "cause", "section", "feeder", "day", "marked")
 STATUSES = ("late", "corrected", "withdrawn")
-ORDERS = ("", "newest", "second")
+ORDERS = ("", "newest", "second", "entered")
 Test = Callable[[Entry], bool]
 
 
@@ -22,15 +22,16 @@ def wants_past(wanted: dict[str, str]) -> bool:
 
 
 def sheet_view(state: State, wanted: dict[str, str], past: Past) -> Json:
-    """A page of the entries that are asked for, newest first or by second; `past` are all outages, where they are asked for."""
+    """A page of the entries that are asked for: the latest switching first, or the earliest, or what was entered last; `past` are
+    all outages, where they are asked for."""
     search = Search(state, past)
     tests = search.tests(wanted)
     found = [entry for entry in state.entries if all(test(entry) for test in tests)]
     if wanted.get("order", "") not in ORDERS:
         raise Refused(f"there is no order {wanted['order']}")
-    if wanted.get("order") == "second":
+    if wanted.get("order") != "entered":
         found.sort(key=lambda entry: (entry.second, entry.number))
-    else:
+    if wanted.get("order") != "second":
         found.reverse()
     begin = int(wanted["from"]) if re.fullmatch(r"\d{1,5}", wanted.get("from", ""), re.ASCII) else 0
     return {

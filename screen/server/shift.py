@@ -153,9 +153,10 @@ def is_open(office: Office, sending: Sending) -> bool:
 
 
 def entered_view(state: State, found: dict[int, list[Json]]) -> list[Json]:
-    """Entries as they are now, each with what was done to it."""
+    """Entries as they are now, by the time of switching, each with what was done to it."""
     late = state.late_entries()
-    return [{**entry_view(state, state.entries[entry - 1], late), "done": done} for entry, done in found.items()]
+    entries = sorted((state.entries[number - 1] for number in found), key=lambda entry: (entry.second, entry.number))
+    return [{**entry_view(state, entry, late), "done": found[entry.number]} for entry in entries]
 
 
 def entered_by(state: State, sendings: Iterable[Sending]) -> dict[int, list[Json]]:

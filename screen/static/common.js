@@ -126,8 +126,16 @@ export function painted() {
   });
 }
 
+/** A select. A browser tells each choice twice, as input and as change; a program that fills in a form tells it as change
+ * alone, which counts as well. */
 export function choice(options, chosen = "") {
-  return el("select", {}, options.map(([value, text]) => el("option", { value, selected: value === chosen }, text)));
+  let isTold = false;
+  const input = () => { isTold = true; };
+  const change = ({ target }) => {
+    if (!isTold) target.dispatchEvent(new Event("input", { bubbles: true }));
+    isTold = false;
+  };
+  return el("select", { input, change }, options.map(([value, text]) => el("option", { value, selected: value === chosen }, text)));
 }
 
 export function list(id, values) {
@@ -224,6 +232,18 @@ export function showDesk(shown) {
   alarm("differs", shown.differs && `What is shown may be old: ${shown.differs}.`);
 }
 
+let nameField = null; // of the form that asks for it, while it is there
+
+/** Whether somebody could send, who has given no name yet. */
+export const lacksName = () => known.me.asks_name && known.me.could_send && !known.me.name;
+
+/** Leads to the form that asks for the name. */
+export function toName(event) {
+  event.preventDefault();
+  nameField?.scrollIntoView({ block: "center" });
+  nameField?.focus({ preventScroll: true });
+}
+
 function askName(again = false) {
   const given = text({ maxlength: 16, required: true, value: known.me.name });
   const trouble = el("p", {});
@@ -246,6 +266,7 @@ function askName(again = false) {
     el("div", { class: "buttons" }, el("button", { class: "main" }, "This is my name")),
   );
   document.querySelector("main .page-top").after(form);
+  nameField = given;
   if (again) given.focus();
 }
 
@@ -320,7 +341,7 @@ export async function begin(work) {
   showDesk(known.me);
   seen = known.me.number;
   news.load();
-  if (known.me.asks_name && !known.me.name && known.me.could_send) askName();
+  if (lacksName()) askName();
   listen();
   try {
     await work();
@@ -350,7 +371,7 @@ export function lookOnly() {
   const { me } = known;
   if (me.may_send) return "";
   const why = me.desk === "none" ? "This is a copy of a book" : me.could_send ? "This login is for looking" : "This screen is for looking";
-  const words = me.could_send && me.asks_name && !me.name ? "Give your name first" : why;
+  const words = lacksName() ? "Give your name first" : why;
   return el("p", { class: "warn" }, `${words}: what a command would do is shown, and nothing can be sent.`);
 }
 

@@ -29,7 +29,6 @@ class Outage {
       read: () => this.read(),
       form: this.form,
       clock: this.steps,
-      label: "Send to the desk",
       outage: () => ({ name: this.name, remark: this.remark.value.trim() }),
       after: (_, __, intent) => this.after(intent),
       left: () => this.steps.take(),
@@ -108,12 +107,12 @@ class Outage {
     return found;
   }
 
-  /** Fills the form in from an entry of an outage: its device. */
+  /** Fills the form in from an entry of an outage: its device. The crew stays the one who is logged in: who opened it may be
+   * somebody else. */
   async fillFrom(number) {
     const { outage, entries } = await this.show(number);
-    const { cause, crew, device } = entries.find((entry) => entry.no === Number(number));
+    const { cause, device } = entries.find((entry) => entry.no === Number(number));
     this.cause.value = String(cause);
-    this.crew.value = crew;
     if (outage?.startsWith("_")) this.own = outage;
     else if (outage && outage.length <= ticketLetters()) this.ticket.value = outage;
     return device;

@@ -42,7 +42,7 @@ function enteredPart({ entered, entered_found }) {
     el("div", {}, [...row.done].reverse().map(done)), ["late", "corrected", "withdrawn"].filter((name) => row[name]).join(", "),
   ]);
   const heads = ["entry", "time", "device", "position", "cause", "crew", "what was done", "status"];
-  return part(`Entered or changed: ${counted(entered, entered_found)}, each as it is now`, heads, rows, "No switching was entered or changed in this time.");
+  return part(`Entered or changed: ${counted(entered, entered_found)}, each as it is now, by time of switching`, heads, rows, "No switching was entered or changed in this time.");
 }
 
 function endedPart({ ended }) {
@@ -81,7 +81,7 @@ begin(async () => {
   const print = el("button", { type: "button", class: "main", click: () => window.print() }, "Print");
   const fields = Object.entries(FIELDS).map(([name, [label, , note]]) => field(label, inputs[name], note.replace("TODAY", known.book.today)));
   const form = el("form", { class: "card short no-print", "aria-label": "Which time, and sent by whom", submit: (event) => event.preventDefault() }, el("div", { class: "row top" }, fields), el("div", { class: "buttons" }, print));
-  main.append(form, parts, markedDays(), foot(`Open outages are ${source()}; outages that ended follow from the book's rows.`));
+  main.append(form, parts, markedDays(), foot(`Open outages are ${source()}; outages that ended follow from what was entered.`));
   onCommands(show);
   await show();
 });

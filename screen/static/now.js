@@ -42,6 +42,7 @@ async function show({ anew = false } = {}) {
     tile(shown.customers_out, "Customers without supply", number(shown.customers_out), `of ${number(shown.customers_served)} in service`),
     tile(found, "Outages", number(found)),
     tile(shown.outages.length, "Sections without supply", number(shown.outages.length)),
+    outages.whole,
     el("div", { class: "tile" }, "As of ", el("b", { class: "when" }, moment(shown.at))),
   );
   document.body.dataset.number = shown.number;

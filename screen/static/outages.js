@@ -1,6 +1,6 @@
 // Outages: what one switching cut off and is still without supply, largest first; filtered and sorted by the page's address.
 import { fromAddress, toAddress } from "./address.js";
-import { breakable, BRIEF, causes, choice, duration, el, field, known, number, settled, text } from "./common.js";
+import { breakable, BRIEF, causes, choice, duration, el, field, known, lacksName, number, settled, text, toName } from "./common.js";
 import { momentFrom, ticketOf } from "./elements.js";
 import { KeyedTable } from "./keyed.js";
 
@@ -43,6 +43,7 @@ export class Outages {
     this.table = new KeyedTable(HEADS, "outages", "Outages, by what cut them off", "supplied again", filled);
     this.title = el("h2", {});
     this.none = el("div", { role: "status" });
+    this.whole = el("div", { class: "whole-book", hidden: true }, "of the whole book"); // beside figures that no field filters
     this.element = el("section", { "aria-label": "Outages", class: "list" }, this.title, this.none, this.table.element);
     this.shown = null;
   }
@@ -88,6 +89,7 @@ export class Outages {
     this.title.textContent = all.length ? `${isFiltered ? `${number(found.length)} of ` : ""}${number(all.length)} outage${all.length > 1 ? "s" : ""}` : "Outages";
     this.say(all, isFiltered);
     this.table.show(found.map((outage) => ({ key: outage.key, cells: this.cells(outage) })), { anew });
+    this.whole.hidden = !this.isAsked;
     return all.length;
   }
 
@@ -99,6 +101,12 @@ export class Outages {
     if (row) return;
     this.none.dataset.told = key; // until the rows are shown again
     this.none.replaceChildren(el("p", { class: "warn" }, this.shown.outages.some((each) => `entry-${each.entry}` === key) ? "A filter hides this outage." : "This outage is over: its sections have supply again."));
+  }
+
+  /** Whether the fields ask for some outages alone. */
+  get isAsked() {
+    const { feeder, cause, text: words } = this.wanted;
+    return Boolean(feeder || cause || words);
   }
 
   /** Nothing is out, or nothing of what is looked for; a filter that hides outages says so. */
@@ -138,10 +146,12 @@ export class Outages {
     return `/enter?${new URLSearchParams({ entry: outage.entry, ...more, ...(this.at ? { at: this.at } : {}) })}`;
   }
 
-  /** The way to the form that closes the device; one that is closed lies under another that is open. */
+  /** The way to the form that closes the device, or first to that of one's name; one that is closed lies under another that is
+   * open. */
   closing(outage) {
-    if (!outage.device || !known.me.may_send) return "";
+    if (!outage.device || !(known.me.may_send || lacksName())) return "";
     if (outage.isClosed) return "closed, still cut off";
+    if (lacksName()) return { told: "name", make: () => el("a", { class: "to-name", href: "#your-name", "aria-label": `Close ${outage.device}: give your name first`, click: toName }, "Close ", el("span", { class: "note" }, "name first")) };
     const href = this.form(outage, { close: "yes" });
     return { told: href, make: () => el("a", { class: "close", href, "aria-label": `Close ${outage.device}` }, "Close") };
   }

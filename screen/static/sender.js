@@ -27,11 +27,12 @@ function intentOf(commands, shown, { name = "", remark = "" }) {
   return { commands: ordered, places: order, replies: [], forecast: { number, moved, sent }, words, sent: Date.now() };
 }
 
-/** `read` answers the command or a list of them, or null where a field is missing. `form` sends by the Enter key too. While
- * `clock` shows the time that is now, a command's second is the one at which it is sent. `outage` answers the name and the remark
- * of an outage. `after` hears the replies, or null and the refusal, and what was sent; `left`, that the form is free for others. */
+/** `read` answers the command or a list of them, or null where a field is missing. `form` sends by the Enter key too, in its
+ * fields if it has some. While `clock` shows the time that is now, a command's second is the one at which it is sent. `outage`
+ * answers the name and the remark of an outage. `after` hears the replies, or null and the refusal, and what was sent; `left`,
+ * that the form is free for others. */
 export class Sender {
-  constructor({ read, lock, form, clock = null, outage = () => ({}), after = () => {}, left = () => {}, label = "Send", missing = "Fill in the fields: what it would do is shown here before it is sent." }) {
+  constructor({ read, lock, form, hasFields = true, clock = null, outage = () => ({}), after = () => {}, left = () => {}, label = "Send", missing = "Fill in the fields: what it would do is shown here before it is sent." }) {
     this.read = () => [read() ?? []].flat();
     this.outage = outage;
     this.left = left;
@@ -49,7 +50,7 @@ export class Sender {
     this.outcome = el("div", { class: "outcome", role: "status", tabindex: "-1" });
     this.tick = el("input", { type: "checkbox", input: () => this.enable() });
     this.button = el("button", { type: "submit", class: "main send", disabled: true }, label);
-    this.element = el("div", { class: "sender" }, this.forecast, el("div", { class: "buttons" }, this.button), this.outcome);
+    this.element = el("div", { class: "sender" }, this.forecast, el("div", { class: "buttons" }, this.button, form && hasFields ? el("span", { class: "note enter-too" }, "Enter in a field sends, too.") : ""), this.outcome);
     this.rests = false; // after an answer, until a field is changed
     const later = settled(() => this.rests || this.look());
     this.update = () => {
@@ -177,7 +178,7 @@ export class Sender {
       keep(intent); // first: what is said to be on its way is known after the page is left, too
       this.draft?.drop();
       const step = commands.length > 1 ? `, step ${replies.length + 1} of ${commands.length}` : "";
-      this.outcome.replaceChildren(el("p", { class: "ask" }, `On its way to the desk as ${command.ref}${step}.`));
+      this.outcome.replaceChildren(el("p", { class: "ask" }, `On its way as ${command.ref}${step}.`));
     };
     try {
       await sendRest(intent, onItsWay);

@@ -20,6 +20,11 @@ const tags = (entry) => ["late", "corrected"].filter((name) => entry[name]).conc
 
 const NOT_READ = 422; // the status of a search that can't be read
 const SEARCHED = { device: "device", cause: "cause", crew: "crew", section: "section", feeder: "feeder", day: "day", marked: "status" };
+const ORDERS = {
+  newest: ["latest switching", "by time of switching, latest first"],
+  second: ["earliest switching", "by time of switching, earliest first"],
+  entered: ["latest entry", "by time of entry, latest first"],
+}; // in the field, and in the heading
 const inputs = {};
 
 /** What is searched for changed: the first rows of it are shown. */
@@ -70,7 +75,7 @@ async function filters() {
       field("Feeder", make("feeder", choice([["", "any"], ...feeders()]))),
       el("div", { class: "together" }, field("Day", make("day", el("input", { type: "date", min: days[0], max: days[days.length - 1] }))), await dayButtons()),
       field("Status", make("marked", choice([["", "all"], ["late", "late"], ["corrected", "corrected"], ["withdrawn", "withdrawn"]]))),
-      field("Order", make("order", choice([["newest", "newest first"], ["second", "by second"]]))),
+      field("Order", make("order", choice(Object.entries(ORDERS).map(([name, [words]]) => [name, words])))),
     ),
   );
 }
@@ -112,7 +117,7 @@ async function show() {
   const empty = searchWords() ? [el("p", { class: "warn" }, `No entries for ${searchWords()}.`), clearing()] : [el("p", {}, "The book has no entries yet.")];
   renew(
     rows,
-    el("h2", {}, `${number(shown.found)} of ${number(shown.of)} entries${shown.found > lines.length ? `: ${number(from + 1)}\u2013${number(from + lines.length)}` : ""}`),
+    el("h2", {}, `${number(shown.found)} of ${number(shown.of)} entries, ${(ORDERS[wanted.order] ?? ORDERS.newest)[1]}${shown.found > lines.length ? `: ${number(from + 1)}\u2013${number(from + lines.length)}` : ""}`),
     ...(lines.length ? [table(["entry", "time", "device", "position", "cause", "crew", "reference", "status"], lines, "Entries", classes)] : empty),
     shown.found > 100 ? turns(shown) : "",
   );
@@ -206,7 +211,7 @@ begin(async () => {
   Object.assign(wanted, fromAddress([...Object.keys(SEARCHED), "order"]));
   from = Number(fromAddress(["from"]).from ?? 0) || 0;
   const narrow = matchMedia("(max-width: 40rem)").matches;
-  main.append(lookOnly(), el("details", { class: "search no-print", open: !narrow }, el("summary", {}, "Search"), await filters()), detail, rows, shiftLog(), foot(`What a command changed is ${source()}, in its own reply; status and search follow from the book's rows.`));
+  main.append(lookOnly(), el("details", { class: "search no-print", open: !narrow }, el("summary", {}, "Search"), await filters()), detail, rows, shiftLog(), foot(`What a command changed is ${source()}, in its own reply; status and search follow from what was entered.`));
   onCommands(() => { show(); showLog(); lookAgain(); });
   await Promise.all([show(), showLog()]);
   const asked = new URLSearchParams(location.search);

@@ -114,7 +114,7 @@ async function resend(intent, outcome, button) {
   }
   const { replies, commands, words } = intent;
   button.disabled = true;
-  outcome.replaceChildren(el("p", {}, "On its way to the desk."));
+  outcome.replaceChildren(el("p", {}, "On its way."));
   const next = () => store.getItem(PREFIX + ref) && keep(intent);
   try {
     await sendRest(intent, next);

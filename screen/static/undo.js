@@ -13,10 +13,12 @@ export function offerUndo(place, undo) {
   const ask = () => {
     const form = el("form", { id: `undo-${(made += 1)}`, class: "card", tabindex: "-1", "aria-label": "Undo" });
     const read = () => (form.isConnected ? undo.commands : null);
-    const sender = new Sender({ read, form, label: "Send the undo", missing: "This undo isn't offered any more." });
-    form.append(el("h2", {}, `Undo: ${undo.words}`), sender.element);
+    const said = el("p", { class: "ask", role: "status" }, "Nothing is undone yet: it is only when you press Send the undo.");
+    const after = (replies) => replies && said.replaceChildren("Undone: what was saved above is taken back.");
+    const sender = new Sender({ read, form, hasFields: false, after, label: "Send the undo", missing: "This undo isn't offered any more." });
+    form.append(el("h2", {}, `Undo: ${undo.words}`), said, sender.element);
     part.replaceWith(form);
-    form.focus();
-    sender.update();
+    form.focus({ preventScroll: true });
+    sender.look().then(() => form.scrollIntoView()); // the whole of it, where it has room
   };
 }

@@ -59,9 +59,10 @@ function openBanner({ open, to_now }) {
   return el("p", { class: "warn open-outages" }, words);
 }
 
-function toNowPart(toNow) {
+function toNowPart({ to_now: toNow, open }) {
   return el("section", { class: "to-now", "aria-label": "Up to now" },
     el("h2", {}, "Up to now, ", moment(toNow.at)),
+    el("p", { class: "counted" }, `From ${known.book.days[0]} on. What is open is counted up to now${open ? `: ${number(open)} outage${open > 1 ? "s" : ""}` : ""}.`),
     el("div", { class: "tiles" }, indexTiles(toNow.indices), lost(toNow.W)));
 }
 
@@ -108,7 +109,7 @@ async function show() {
   renew(
     figures,
     openBanner(shown),
-    shown.to_now ? toNowPart(shown.to_now) : shown.why ? el("p", { class: "warn" }, `Figures up to now can't be had: ${shown.why}.`) : "",
+    shown.to_now ? toNowPart(shown) : shown.why ? el("p", { class: "warn" }, `Figures up to now can't be had: ${shown.why}.`) : "",
     wholePart(shown),
     el("div", { class: "two" },
       el("section", {}, el("h2", {}, shown.to_now ? "Indices, to the period's end" : "Indices"), table(["index", "#all", "#without major event days"], indices, "Indices"), el("p", { class: "note" }, note)),
@@ -141,7 +142,7 @@ function importForm() {
     event.preventDefault();
     if (!file.files.length) return;
     button.disabled = true;
-    report.replaceChildren(el("p", { class: "ask" }, "On its way to the desk."));
+    report.replaceChildren(el("p", { class: "ask" }, "On its way."));
     try {
       report.replaceChildren(reportOf(await post("/api/import", await file.files[0].arrayBuffer(), { type: "text/csv", seconds: IMPORT_SECONDS })));
     } catch (trouble) {
@@ -160,7 +161,7 @@ function reportOf(shown) {
 }
 
 begin(async () => {
-  const links = [["/report", "The printed report"], ["/download/table.txt", "Annual table"], ["/download/commands.csv", "Commands as CSV"], ["/download/moves.csv", "Moves as CSV"]];
+  const links = [["/report", "The printed report (opens another tab)"], ["/download/table.txt", "Annual table (saves a file)"], ["/download/commands.csv", "Commands as CSV (saves a file)"], ["/download/moves.csv", "Moves as CSV (saves a file)"]];
   const mark = known.me.may_send ? markForm() : null;
   main.append(
     el("div", { class: "buttons no-print" }, links.map(([href, words]) => el("a", { href, target: href === "/report" ? "_blank" : null, rel: "noopener" }, words))),

@@ -120,6 +120,12 @@ function hearClick(element) {
   element.addEventListener("click", () => { window.isClicked = true; }, { once: true, capture: true });
 }
 
+/** An element stands in the window, below what stays at its top. */
+function inSight(selector) {
+  const { top, bottom } = boxOf(document.querySelector(selector));
+  return top >= 60 && bottom <= innerHeight;
+}
+
 /** Keeps all that an element says from now on. */
 function record(selector) {
   const element = document.querySelector(selector);

@@ -223,8 +223,8 @@ class Client:
         return self.send(kind="switch", f1=device, f2=position, f3=at, f4=str(cause), f5=crew)
 
     def entries(self) -> list[Any]:
-        """The first rows of the switching log, newest first."""
-        return list(self.call("/api/sheet")[1]["rows"])
+        """The first rows of the switching log, what was entered last first."""
+        return list(self.call("/api/sheet?order=entered")[1]["rows"])
 
     def number(self) -> int:
         """The last command that the screen knows."""

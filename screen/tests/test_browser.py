@@ -162,7 +162,7 @@ class Operators(Case):
         page.says(".hint", "late entry")
         page.says(".forecast", "LOSES supply")
         page.can_send()
-        hand.go("Send to the desk")
+        hand.go("Send")
         page.says(".outcome .equal", "As forecast")
         hand.go("Switching log")
         page.at("Switching log")
@@ -488,6 +488,7 @@ class Live(Case):
     def test_the_enter_key_sends(self) -> None:
         page = self.opened(f"/enter?device=LBS-1&at={self.second()}")
         page.says("form", "LBS-1 is closed then")
+        page.says(".sender", "Enter in a field sends, too")
         page.field("Crew").send_keys(Keys.ENTER)
         page.says(".outcome", "Fill in the fields")
         page.fill("Cause", "1")
@@ -520,8 +521,10 @@ class Live(Case):
         turns = page.says(".turns", "of 250")
         self.assertIn("Newer entries", turns)
         self.assertIn("Older entries", turns)
-        page.fill("Order", "by second")
+        page.says("main h2", "entries, by time of switching, latest first")
+        page.fill("Order", "earliest switching")
         page.says(".turns", "Earlier entries")
+        page.says("main h2", "entries, by time of switching, earliest first")
 
     def test_what_was_shown_and_what_it_did(self) -> None:
         """Another's opening comes between the forecast and its sending: that is said first, with a way back."""
@@ -547,8 +550,13 @@ class Live(Case):
         self.switch("open")
         page = self.opened("/year")
         page.says(".open-outages", "1 outage is open and counts to the period's end")
+        for link in page.all("main .buttons a"):
+            self.assertEqual(link.get_attribute("target") == "_blank", "opens another tab" in link.text)
+        page.says(".to-now .counted", "What is open is counted up to now: 1 outage.")
         shown = [each.get_attribute("class") for each in page.all("main section")]
         self.assertEqual(shown[:2], ["to-now", "whole"])
+        sizes = [page.find(f".{name} .tile b").value_of_css_property("font-size") for name in shown[:2]]
+        self.assertGreater(float(sizes[0][:-2]), 1.5 * float(sizes[1][:-2]))
         up_to_now, whole = (page.text(f".{name} .tile:nth-child(5) b").replace("\u2009", "") for name in shown[:2])
         self.assertLess(float(up_to_now), float(whole) / 100)
         last = max(each.text for each in page.all(".tall td") if each.text[4:5] == "-")
@@ -601,6 +609,16 @@ class Storm(Case):
             self.assertIn(name, page.text("[data-key=entry-2]"))
         page.fill("Order", "newest first")
         page.wait(lambda: self.devices(page)[0] == "LBS-34", "the newest one")
+        page.open(f"{self.url}/?at={int(time.time()) + 86_400}")
+        day = self.live.entries()[-1]["second"]["text"][5:10]
+        page.says("[data-key=entry-2]", day)  # since when, seen from another day
+        page.driver.delete_all_cookies()
+        page.open(f"{self.url}/?order=newest", None)
+        self.assertEqual(page.all("a.close"), [])
+        page.click(".to-name")
+        self.assertEqual(page.focus, page.field("Your name"))
+        page.press("anna", Keys.ENTER)
+        page.says("header", "You are ANNA")
         page.click("a.close")
         page.at("New switching")
         page.says("form", "LBS-34 is open then")
@@ -609,15 +627,19 @@ class Storm(Case):
 
     def test_a_filter_stands_in_the_address(self) -> None:
         page = self.opened("/")
-        page.fill("Feeder", "3")
+        change = "arguments[0].value = '3'; arguments[0].dispatchEvent(new Event('change', { bubbles: true }));"
+        page.script(change, page.field("Feeder"))  # as a program that fills in a form tells it
         page.wait(lambda: self.devices(page) == ["LBS-34", "LBS-31"], "feeder 3")
-        page.fill("Cause", "2")
+        page.field("Cause").click()
+        page.press(Keys.ARROW_DOWN, Keys.ARROW_DOWN, Keys.ENTER)
         page.wait(lambda: self.devices(page) == ["LBS-31"], "cause 2")
         page.says("main h2", "1 of 4 outages")
+        page.says(".tiles", "of the whole book")
         page.reload()
         page.wait(lambda: self.devices(page) == ["LBS-31"], "the same after a reload")
         page.click(".clear")
         page.wait(lambda: len(self.devices(page)) == 4, "all")
+        self.assertNotIn("whole book", page.text(".tiles"))
         page.fill("Device, section", "mill-23")
         page.wait(lambda: self.devices(page) == ["CB-2"], "the outage of a section")
         self.assertIn("text=mill-23", page.driver.current_url)

@@ -97,8 +97,14 @@ class Outages(Case):
         self.other.wait(lambda: self.other.script(number) == last, "the last step")
         self.assertNotIn("cut off by", self.other.heard)
         page.click(".undo")
+        page.says(".outcome form", "Nothing is undone yet")
+        self.assertEqual(page.all(".outcome .enter-too"), [])  # it has no field
+        page.wait(lambda: page.find(".outcome .send").is_enabled() and page.probe("inSight", ".outcome .send"), "it")
+        self.assertEqual(page.focus.get_attribute("aria-label"), "Undo")
+        self.assertTrue(all(row["kept"] for row in self.saved()))
         page.click(".outcome .send")
         page.says(".outcome .outcome .equal", "As forecast")
+        self.assertNotIn("Nothing is undone yet", page.says(".outcome form", "Undone: "))
         self.assertFalse(any(row["kept"] for row in self.saved()))
 
     def test_an_outage_that_is_over_by_a_finger_on_a_phone(self) -> None:
@@ -117,7 +123,7 @@ class Outages(Case):
         page.fill("Remark", "A tree on the line.")
         self.forecast(page, 2)
         page.says(".ends-first", "sent first")
-        page.tap_on("Send to the desk")
+        page.tap_on("Send")
         page.says(".outcome .equal", "As forecast")
         self.assertEqual(page.probe("cutOff"), [])
         self.assertEqual(self.words(), ["CB-2 close", "CB-2 open"])
@@ -194,13 +200,14 @@ class Outages(Case):
         page.fill("Crew", "NORTH")
         page.fill("Ticket", "t-9")
         page.send()
-        follow("a.outage", "CB-3 open at", Device="", Cause="1", Crew="NORTH", Ticket="T_9")
-        follow("a.close", "CB-3 open at", Device="CB-3", Cause="1", Crew="NORTH", Ticket="T_9")
+        follow("a.outage", "CB-3 open at", Device="", Cause="1", Crew="BERT", Ticket="T_9")
+        follow("a.close", "CB-3 open at", Device="CB-3", Cause="1", Crew="BERT", Ticket="T_9")
         page.says(".forecast", "gets back supply")
         page.send()
         page.says(".saved-steps", "CB-3 close at")
         found = self.live.call("/api/outages/2")[1]
         self.assertEqual((found["outage"], [row["no"] for row in found["entries"]]), ("T_9", [1, 2]))
+        self.assertEqual([row["crew"] for row in found["entries"]], ["NORTH", "BERT"])
 
     def test_a_form_that_is_left_comes_back(self) -> None:
         """By Back, by a link and by a reload it has what was typed; in its own tab and at its own address alone."""

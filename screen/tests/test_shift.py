@@ -87,6 +87,19 @@ class Shift(support.Case):
         self.assertEqual((changed["revision"], changed["cause"], changed["crew"]), (2, 2, "X"))
         self.assertEqual([row["no"] for row in self.get("/api/changes", since=since, name="NEW-2")["entered"]], [mine])
         self.assertEqual(self.get("/api/changes", since="2001-01-01", until="2001-01-02")["entered"], [])
+        earlier = self.switch("NEW-3", "close", ago=50)["entry"]
+        late = self.switch("NEW-3", "open", ago=90)["entry"]
+        self.assertEqual(
+            [row["no"] for row in self.get("/api/changes", since=since, name="NEW-3")["entered"]], [late, earlier]
+        )
+        for order, found in {
+            "": [earlier, late],
+            "newest": [earlier, late],
+            "second": [late, earlier],
+            "entered": [late, earlier],
+        }.items():
+            rows = self.get("/api/sheet", crew="NEW-3", order=order)["rows"]
+            self.assertEqual([row["no"] for row in rows], found, order)
 
     def test_marked_days_and_who_marked_them(self) -> None:
         first, second = self.live.call("/api/book")[1]["days"][:2]
@@ -186,6 +199,7 @@ class Pages(support.Case):
             for words in (
                 "sent by bert",
                 "Open outages: 1, of 2 sections and 3 customers",
+                "each as it is now, by time of switching",
                 "CB-1",
                 "entry 3",
                 "by BERT",
@@ -221,7 +235,7 @@ class Stops(support.Case):
         self.assertEqual(rows[0]["result"], f"saved: command {support.LAST_OF_SMALL + 2}")
         self.assertIn("LBS-1 close at ", rows[0]["words"])
         shown = again.call("/api/changes")[1]
-        self.assertEqual([row["no"] for row in shown["entered"]], [2, 1])
+        self.assertEqual([row["no"] for row in shown["entered"]], [1, 2])
         ended = [(row["entry"], row["sections"], row["customers"]) for row in shown["ended"]]
         self.assertEqual((shown["open"], ended), ([], [(1, ["MILL"], 2)]))
 
