@@ -1,5 +1,8 @@
 //! Tests of the supply at a second.
 use crate::adopted::{counting_book, take_all};
+use crate::counting::Counting;
+use ob_book::Book;
+use std::process::Abort;
 use std::test::Fail;
 
 // A section behind a breaker that is open for an hour, one that no device joins, and a tie whose
@@ -28,13 +31,24 @@ const SUPPLIES: &'static str = r#"1704067199 => none
 fn the_supply_around_an_outage(rt: HostRuntime) -> Result<(), Fail> {
     let mut book = counting_book(rt.alloc())?;
     take_all(&rt, rt.alloc(), &mut book, BREAKER)?;
-    for line in SUPPLIES.lines() {
-        let (second, wanted) = line.split_once(" => ").ok_or("a second")?;
-        let second = second.parse().map_err(|_| "a number")?;
-        match book.supply_text(second)? {
-            Some(text) => assert!(rt; text.as_slice() == wanted.as_bytes(), "{line}"),
-            None => assert!(rt; wanted == "none", "{line}"),
-        }
+    shows_all(&rt, &book, SUPPLIES)
+}
+
+// The lines are a parameter: a loop over those of a long constant takes minutes to prove.
+fn shows_all(rt: &impl Abort, book: &Book<Counting>, lines: &str) -> Result<(), Fail> {
+    for line in lines.lines() {
+        shows_supply(rt, book, line)?;
+    }
+    Ok(())
+}
+
+// Checks that the book shows the supply at a second as a line has it.
+fn shows_supply(rt: &impl Abort, book: &Book<Counting>, line: &str) -> Result<(), Fail> {
+    let (second, wanted) = line.split_once(" => ").ok_or("a second")?;
+    let second = second.parse().map_err(|_| "a number")?;
+    match book.supply_text(second)? {
+        Some(text) => assert!(rt; text.as_slice() == wanted.as_bytes(), "{line}"),
+        None => assert!(rt; wanted == "none", "{line}"),
     }
     Ok(())
 }

@@ -82,21 +82,37 @@ const DATES: &'static [(&'static [u8], Option<u16>)] = &[
     (b"2024-03-12", None),
 ];
 
-#[test]
-fn two_days(rt: HostRuntime) -> Result<(), Fail> {
-    let period = Period::from_text(rt.alloc(), b"2024-03-10", 2, EASTERN)?;
-    spans(&rt, &period, 1_710_046_800, 1_710_216_000, 169_200);
-    assert!(rt; period.day_of(1_710_046_799) == None && period.day_of(1_710_216_000) == None);
-    assert!(rt; period.day_of(1_710_129_599) == Some(0));
-    assert!(rt; period.day_of(1_710_129_600) == Some(1));
-    assert!(rt; period.day_of(1_710_215_999) == Some(1));
-    assert!(rt; period.days() == 2 && period.zone_text() == EASTERN);
-    assert!(rt; period.date_text(1)?.as_str() == "2024-03-11");
-    for (text, day) in DATES {
+// Seconds around the midnights of the period below, and the days that they are in.
+const SECONDS: &'static [(Second, Option<u16>)] = &[
+    (1_710_046_799, None),
+    (1_710_129_599, Some(0)),
+    (1_710_129_600, Some(1)),
+    (1_710_215_999, Some(1)),
+    (1_710_216_000, None),
+];
+
+fn has_seconds(rt: &impl Abort, period: &Period, rows: &[(Second, Option<u16>)]) {
+    for (second, day) in rows {
+        assert!(rt; period.day_of(*second) == *day);
+    }
+}
+
+fn has_dates(rt: &impl Abort, period: &Period, rows: &[(&[u8], Option<u16>)]) -> Result<(), Fail> {
+    for (text, day) in rows {
         let date = read_date(text).ok_or("a date")?;
         assert!(rt; period.day_index(&date) == *day);
     }
     Ok(())
+}
+
+#[test]
+fn two_days(rt: HostRuntime) -> Result<(), Fail> {
+    let period = Period::from_text(rt.alloc(), b"2024-03-10", 2, EASTERN)?;
+    spans(&rt, &period, 1_710_046_800, 1_710_216_000, 169_200);
+    assert!(rt; period.days() == 2 && period.zone_text() == EASTERN);
+    assert!(rt; period.date_text(1)?.as_str() == "2024-03-11");
+    has_seconds(&rt, &period, SECONDS);
+    has_dates(&rt, &period, DATES)
 }
 
 // 366 days of 86,400 seconds; where the clock changes, the year's two changes cancel out.
