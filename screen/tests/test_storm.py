@@ -154,6 +154,8 @@ class Pages(test_browser.Case):
             page.fill("Feeder", "3")
             page.says("main h2", "1 of 2 outages")
             self.assertIn("LBS-31", page.text("table.outages"))
+            for name in ("feeder", "since"):
+                self.assertTrue(page.find(f"tbody [data-label={name}]").is_displayed(), name)
             page.tap_on("Switching log")
             page.at("Switching log")
             for words in ["Search", "Yesterday"] if narrow else ["Yesterday"]:
