@@ -75,7 +75,7 @@ def sending_view(state: State, sending: Sending) -> Json:
 
 def words_of(state: State, sending: Sending) -> str:
     if sending.kind == IMPORT:
-        return "a file of commands"
+        return "a file of changes"
     if sending.kind == ELSEWHERE:
         return elsewhere_words(state, *(sending.commands or (0, 0)))
     words = command_words(state, sending.kind, sending.fields)
@@ -87,7 +87,7 @@ def elsewhere_words(state: State, first: int, last: int) -> str:
     """Commands of another program; a single one by what it is, where it is one of the latest."""
     found = next((each for each in state.latest if each.number == first == last), None)
     if found is None:
-        return f"{last - first + 1} commands" if first < last else "a command"
+        return f"{last - first + 1} changes" if first < last else "a change"
     return f"{command_words(state, found.kind, found.fields)} ({found.ref})"
 
 
@@ -106,11 +106,11 @@ def result_of(sending: Sending, entry: int | None) -> str:
         return "no answer: it isn't known whether it is saved"
     if sending.number is None:
         return f"saved: {numbers}" if numbers else "saved already"
-    return f"saved: command {sending.number}" + (f", entry {entry}" if entry else "")
+    return f"saved: {numbers_words(sending.number, sending.number)}" + (f", entry {entry}" if entry else "")
 
 
 def numbers_words(first: int, last: int) -> str:
-    return f"commands {first} to {last}" if first < last else f"command {first}"
+    return f"changes no. {first} to {last}" if first < last else f"change no. {first}"
 
 
 # What a shift hands over.
@@ -119,7 +119,7 @@ def numbers_words(first: int, last: int) -> str:
 async def shift_view(office: Office, wanted: dict[str, str]) -> Json:
     """Open outages, and what changed from a second up to another, by whom."""
     state, part = office.state, wanted.get("name", "").strip().upper()
-    since, until = bounds_of(state, wanted, int(time.time()) - SHIFT_SECONDS)
+    since, until = bounds_of(state, wanted, (int(time.time()) - SHIFT_SECONDS) // 60 * 60)
     supply, past = await office.supply(state.now()), await office.past()
     sendings = list(office.journal.between(since, until, part))
     entered = entered_by(state, sendings)

@@ -55,7 +55,7 @@ class Shift(support.Case):
         self.assertEqual([row["by"] for row in one], ["LOG-1"])
         self.assertEqual([row["result"].split()[0] for row in other], ["refused:", "refused:", "saved:"])
         self.assertIn("LBS-1 open at ", one[0]["words"])
-        self.assertEqual(one[0]["result"], f"saved: command {opened['reply']['no']}, entry {opened['entry']}")
+        self.assertEqual(one[0]["result"], f"saved: change no. {opened['reply']['no']}, entry {opened['entry']}")
         self.assertEqual([row["result"].split()[1] for row in other[:2]], ["1", "5"])
         self.assertRegex(one[0]["at"], r"\+0[12]:00$")
         later = int(datetime.fromisoformat(one[0]["at"]).timestamp()) + 1
@@ -232,7 +232,7 @@ class Stops(support.Case):
         again = self.screen(desk=desk)
         rows = again.call("/api/log")[1]
         self.assertEqual([row["by"] for row in rows], ["another program", "ANNA"])
-        self.assertEqual(rows[0]["result"], f"saved: command {support.LAST_OF_SMALL + 2}")
+        self.assertEqual(rows[0]["result"], f"saved: change no. {support.LAST_OF_SMALL + 2}")
         self.assertIn("LBS-1 close at ", rows[0]["words"])
         shown = again.call("/api/changes")[1]
         self.assertEqual([row["no"] for row in shown["entered"]], [1, 2])
