@@ -38,7 +38,7 @@ class Desk:
 
     def __init__(self, url: str | None):
         self.url = url
-        self.why_away: str | None = None if url else "no desk has been started yet"
+        self.why_away: str | None = None if url else "the book's server hasn't been started yet"
         self.is_busy = False
         self.order = asyncio.Lock()
 
@@ -46,7 +46,7 @@ class Desk:
         """One request, once. A 503 counts as no answer: the desk had a fault and doesn't know its book."""
         async with self.order:
             if self.url is None:
-                raise Away(self.why_away or "there is no desk")
+                raise Away(self.why_away or "the book has no server")
             try:
                 answer = await self._once(method, self.url + route, body, seconds)
             except (aiohttp.ClientError, asyncio.TimeoutError, OSError) as error:
@@ -54,7 +54,7 @@ class Desk:
                 self.why_away = late or f"{type(error).__name__}: {error}"[:SHOWN_ERROR]
                 raise Away(self.why_away) from None
             if answer.status == 503:
-                self.why_away = "the desk had a fault (503)"
+                self.why_away = "the book's server had a fault (503)"
                 raise Away(self.why_away)
             self.why_away, self.is_busy = None, False
             return answer
@@ -63,13 +63,13 @@ class Desk:
         """What changes nothing: it waits a short time for its turn and the answer. A desk that is away, or let others wait in
         vain, isn't asked until it has answered something."""
         if self.url is None or self.why_away or self.is_busy:
-            raise Away(self.why_away or "the desk is busy")
+            raise Away(self.why_away or "the book's server is busy")
         try:
             async with asyncio.timeout(LOOK_SECONDS):
                 return await self.ask("POST" if body else "GET", route, body)
         except TimeoutError:
             self.is_busy = True
-            raise Away("the desk is busy") from None
+            raise Away("the book's server is busy") from None
 
     async def _once(self, method: str, url: str, body: bytes | None, seconds: float) -> Answer:
         limit = aiohttp.ClientTimeout(total=seconds)
@@ -152,7 +152,7 @@ class OwnDesk:
             last = said
         status = await self.process.wait()
         self.is_final = status in self.FINAL
-        return f"the desk ended with status {status}: {last.decode(errors='replace').strip()}"
+        return f"the book's server ended with status {status}: {last.decode(errors='replace').strip()}"
 
     def is_here(self) -> None:
         """The desk takes requests from now on."""

@@ -117,7 +117,7 @@ class DeskCopy(OwnDesk):
     @asynccontextmanager
     async def turn(self) -> AsyncIterator[None]:
         """The copy for one question, as of the last command that is known."""
-        await within(READY_SECONDS, self.order.acquire(), lambda: "the copy of the desk is busy")
+        await within(READY_SECONDS, self.order.acquire(), lambda: "the copy of the book is busy")
         try:
             await within(READY_SECONDS, self.ready.wait(), self.why)
             with self.whole_or_gone():
@@ -128,7 +128,7 @@ class DeskCopy(OwnDesk):
 
     def why(self) -> str:
         """Why there is no copy."""
-        return self.desk.why_away or "the copy of the desk is being made"
+        return self.desk.why_away or "the copy of the book is being made"
 
     @contextmanager
     def whole_or_gone(self) -> Iterator[None]:
@@ -158,7 +158,7 @@ class DeskCopy(OwnDesk):
         except NotPlanned:
             is_same = False
         if command.number != self.known + 1 or not is_same:
-            raise Away(f"the copy of the desk could not follow command {command.number}")
+            raise Away(f"the copy of the book could not follow change no. {command.number}")
         self.known = command.number
         if command.kind == "switch":
             self.entries.append(self.made)
@@ -180,7 +180,7 @@ class DeskCopy(OwnDesk):
     async def send(self, kind: str, fields: Sequence[str], ref: str) -> Moves:
         answer = await self.desk.ask("POST", "/commands", command_body(kind, fields, ref))
         if answer.status != 200:
-            raise Away(f"the copy of the desk refused {kind}: {answer.body.decode(errors='replace')}")
+            raise Away(f"the copy of the book refused {kind}: {answer.body.decode(errors='replace')}")
         self.made += kind == "switch"
         return moves_in(answer.json())
 

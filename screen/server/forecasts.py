@@ -14,14 +14,16 @@ from .to_now import is_live, marks_view
 from .views import Json, command_words, moment
 
 FUTURE_SECONDS = 60  # clocks of browsers and servers differ
-NO_COPY = "How it moves the SAIDI without major event days isn't known now: there is no copy of the desk to try it on."
+NO_COPY = "How it moves the SAIDI without major event days isn't known now: there is no copy of the book to try it on."
+Seconds = list[tuple[int, int]]  # from one up to another
+Parts = Mapping[str, tuple[Seconds, Seconds]]  # by section: what is lost, and what is got back
 Changes = Mapping[str, tuple[Sequence[Interval], Sequence[Interval]]]  # by section: its outages before and after
 
 
 async def forecast(office: Office, kind: str, fields: Sequence[str]) -> Json:
     """What a command would do as the book stands."""
     if kind not in FIELDS:
-        raise Refused(f"there is no command {kind}")
+        raise Refused(f"there is no change {kind}")
     try:
         planned = await office.plan(kind, fields)
     except NotPlanned as refused:
@@ -58,16 +60,18 @@ def changes_of(plans: Iterable[Plan]) -> Changes:
 
 
 def forecast_view(state: State, kind: str, fields: Sequence[str], moves: Moves, changes: Changes) -> Json:
-    second = second_of(kind, fields)
+    second, parts = second_of(kind, fields), changed_parts(state, changes)
     ahead = 0 if second is None else second - state.now()
+    total = sum(amount for dim, _, amount in moves if dim == "cause")
     return {
         "number": state.number,
-        "sections": sections_of(state, changes),
+        "is_change": kind in ("correct", "withdraw"),
+        "sections": sections_of(state, parts),
         "moved": [list(move) for move in moves],
-        "total": sum(amount for dim, _, amount in moves if dim == "cause"),
+        "total": total,
+        "up_to_now": up_to_now(state, total, parts),
         "hints": [],
         "reason": None,
-        "is_live": is_live(state),
         "unmarked": None,
         "future": ahead if ahead > FUTURE_SECONDS else 0,
         "late": -ahead if kind == "switch" and -ahead > LATE_SECONDS else 0,
@@ -75,14 +79,27 @@ def forecast_view(state: State, kind: str, fields: Sequence[str], moves: Moves, 
     }
 
 
-def sections_of(state: State, changes: Changes) -> list[Json]:
-    """The sections whose supply changes: seconds lost and got back, and customers when that begins. One that would join the
-    network isn't there yet."""
+def changed_parts(state: State, changes: Changes) -> Parts:
+    """The sections whose supply changes, each with the seconds that are lost and those that are got back. One that would join
+    the network isn't there yet."""
+    known = ((name, *changes[name]) for name in changes if name in state.node_numbers)
+    found = {name: (uncovered(after, before), uncovered(before, after)) for name, before, after in known}
+    return {name: parts for name, parts in found.items() if any(parts)}
+
+
+def up_to_now(state: State, total: int, parts: Parts) -> int | None:
+    """What has passed of a total that counts to the end of a period that goes on; None where it doesn't."""
+    now, sides = state.now(), [(name, *side) for name, pair in parts.items() for side in zip((1, -1), pair)]
+    spans = [(state.node_numbers[name], sign, *span) for name, sign, seconds in sides for span in seconds]
+    if not is_live(state) or all(until < state.period.end for *_, until in spans):
+        return None
+    return total - sum(sign * state.served(node, max(since, now), until) for node, sign, since, until in spans)
+
+
+def sections_of(state: State, parts: Parts) -> list[Json]:
+    """The sections whose supply changes: how many seconds, and the customers when that begins."""
     rows: list[Json] = []
-    for name, (before, after) in changes.items():
-        lost, back = uncovered(after, before), uncovered(before, after)
-        if name not in state.node_numbers or not lost + back:
-            continue
+    for name, (lost, back) in parts.items():
         since, until = min(part[0] for part in lost + back), max(part[1] for part in lost + back)
         shown: Json = {"section": name, "feeder": state.feeder_of(name)}
         shown["customers"] = state.customers_at(state.node_numbers[name], since)
@@ -91,11 +108,11 @@ def sections_of(state: State, changes: Changes) -> list[Json]:
     return sorted(rows, key=lambda row: (row["feeder"], row["section"]))
 
 
-def length(parts: Iterable[tuple[int, int]]) -> int:
+def length(parts: Seconds) -> int:
     return sum(until - since for since, until in parts)
 
 
-def uncovered(outages: Sequence[Interval], others: Sequence[Interval]) -> list[tuple[int, int]]:
+def uncovered(outages: Sequence[Interval], others: Sequence[Interval]) -> Seconds:
     """The seconds of some outages that lie in none of others; both rising."""
     parts = []
     for since, until, _ in outages:

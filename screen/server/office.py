@@ -23,7 +23,7 @@ KEPT_UNDOS = 2_000
 KEPT_NEWS = 50
 WAITING_EVENTS = 64
 AWAY_WORDS = (
-    "The desk gave no answer, so it isn't known whether this is saved. Send it again: it goes under the same reference, "
+    "The book's server gave no answer, so it isn't known whether this is saved. Send it again: it goes under the same reference, "
     "and acts once."
 )
 Told = tuple[int, dict[str, Any]]  # a status, and what the page is told

@@ -32,8 +32,11 @@ export const ticketLetters = () => REFERENCE - UNIQUE - `SCR-${known.me.name}-_`
 /** Customer-seconds as customer-minutes, to two decimals where they aren't whole. */
 export const inMinutes = (seconds) => Math.round((Number(seconds) / 60) * 100) / 100;
 
-/** What customer-minutes lost change by. */
-export const lostWords = (seconds) => `Customer-minutes lost: ${seconds ? signed(inMinutes(seconds)) : "no change"}`;
+/** Whether the book's period goes on: what is open counts to its end. */
+export const isLive = () => Date.now() <= known.book.last.second * 1000;
+
+/** What customer-minutes lost change by; `until` says up to when. */
+export const lostWords = (seconds, until = "") => `Customer-minutes lost${until}: ${seconds ? signed(inMinutes(seconds)) : "no change"}`;
 
 /** The names of the book's zone, as CET/CEST. */
 export function zoneName() {
@@ -225,10 +228,10 @@ function alarm(name, words) {
 const time = () => new Date().toLocaleTimeString("en-GB");
 
 export function showDesk(shown) {
-  const words = { here: "Connected", away: "Desk: AWAY", none: "No desk: a copy" };
+  const words = { here: "Connected", away: "Not connected", none: "A copy of a book" };
   say(state, words[shown.desk]);
   alarm("server", null);
-  alarm("desk", shown.desk === "away" && `The desk is away: nothing can be saved now. What is shown is as of command ${shown.number}. The screen tries again each second. (${shown.why})`);
+  alarm("desk", shown.desk === "away" && `The book's server is away: nothing can be saved now. What is shown is as of change no. ${shown.number} of the book. The screen tries again each second. (${shown.why})`);
   alarm("differs", shown.differs && `What is shown may be old: ${shown.differs}.`);
 }
 
@@ -291,7 +294,7 @@ function listen() {
     if (event.what === "commands" || isLater) renewAll(event);
   };
   const lost = (words) => {
-    say(state, "Server: AWAY");
+    say(state, "Not connected");
     alarm("server", `WHAT IS SHOWN MAY BE OLD: ${words}. ${heardAt ? `Last news at ${heardAt} by this computer's clock.` : ""} This page tries again by itself.`);
   };
   document.addEventListener("visibilitychange", () => !document.hidden && isDue && renewAll({}));
@@ -317,7 +320,7 @@ function tell(event) {
   const who = senderOf(command.ref) ?? "Another program";
   const more = event.count > 1 ? `${event.count} changes; the last one: ` : "";
   const at = command.second ? ` at ${momentWords(command.second)}` : "";
-  news.say(`${more}${who}: ${command.kind} ${command.fields.slice(0, 2).join(" ")}${at}. ${lostWords(event.moved)}.`);
+  news.say(`${more}${who}: ${command.kind} ${command.fields.slice(0, 2).join(" ")}${at}. ${lostWords(event.moved, isLive() ? ", to the period's end" : "")}.`);
 }
 
 /** Who asks, and the book's names; asked for until the server answers. */
@@ -359,7 +362,7 @@ export function reloadBook() {
 export const causes = () => known.book.causes.filter(([code]) => code > 0).map(([code, name]) => [String(code), `${code} ${name}`]);
 
 /** Whose figures are those of the program, as this page gets them. */
-export const source = () => (known.me.desk === "none" ? "from the book" : "from the desk");
+export const source = () => (known.me.desk === "none" ? "from the book" : "from the book's server");
 
 /** One line at a page's foot: where its figures come from. */
 export function foot(words) {
@@ -372,7 +375,7 @@ export function lookOnly() {
   if (me.may_send) return "";
   const why = me.desk === "none" ? "This is a copy of a book" : me.could_send ? "This login is for looking" : "This screen is for looking";
   const words = lacksName() ? "Give your name first" : why;
-  return el("p", { class: "warn" }, `${words}: what a command would do is shown, and nothing can be sent.`);
+  return el("p", { class: "warn" }, `${words}: what a change would do is shown, and nothing can be sent.`);
 }
 
 const LETTERS = { crew: 16, name: 24 };

@@ -1,5 +1,5 @@
 // The network: nodes, devices with their lives, customers by section; and the commands that change them.
-import { begin, choice, el, field, foot, get, known, list, lookOnly, number, onCommands, reloadBook, renew, scrolling, settled, spelled, table, text } from "./common.js";
+import { begin, choice, el, field, foot, get, known, list, lookOnly, number, onCommands, reloadBook, renew, scrolling, settled, source, spelled, table, text } from "./common.js";
 import { Draft } from "./drafts.js";
 import { MomentField } from "./moments.js";
 import { Sender } from "./sender.js";
@@ -133,7 +133,7 @@ function searchForm(search) {
 begin(async () => {
   const search = text({ "data-search": "yes", input: settled(() => { searched = search.value.trim().toUpperCase(); show(); }) });
   form = known.me.may_send ? commandForm() : null;
-  main.append(words, searchForm(search), customers, el("div", { class: "two" }, devices, nodes), lookOnly(), form ? form.element : "", foot("Devices, nodes and customers are those of the book; what a change would do is from the desk."));
+  main.append(words, searchForm(search), customers, el("div", { class: "two" }, devices, nodes), lookOnly(), form ? form.element : "", foot(`Devices, nodes and customers are those of the book; what a change would do is ${source()}.`));
   onCommands(async () => { await reloadBook(); show(); });
   show();
 });

@@ -109,7 +109,7 @@ class Operators(Case):
         self.one.script("const b = document.querySelector('.send'); b.click(); b.click(); b.click();")
         self.other.says("main", "All sections are supplied")
         self.assertLess(time.monotonic() - begun, support.limit(1.0))
-        self.one.says(".outcome", "(command 103)")
+        self.one.says(".outcome", "(change no. 103 of the book)")
         self.one.says(".outcome .equal", "As forecast")
         self.other.recorded("ANNA: switch LBS-22 close")
         self.assertEqual(self.one.text(".said"), "")  # it stands where it was sent
@@ -131,10 +131,10 @@ class Operators(Case):
         self.one.says(".outcome .note", "Not sent: what it would do is shown first")
         self.one.says(".forecast", "gets back supply")  # for another time the position is offered anew
         self.one.click(".send")
-        self.one.says(".outcome", "(command 103)")
+        self.one.says(".outcome", "(change no. 103 of the book)")
         self.one.find("input[list=crews]").send_keys(Keys.ENTER)  # once more, as a finger that stays on the key
         time.sleep(0.5)
-        self.assertIn("(command 103)", self.one.text(".outcome"))
+        self.assertIn("(change no. 103 of the book)", self.one.text(".outcome"))
         self.assertEqual(screen.number(), 103)
 
     def test_the_keyboard_alone(self) -> None:
@@ -366,7 +366,7 @@ class Live(Case):
                 self.assertEqual(page.probe("hits"), before, route)
                 page.probe("leaveUnanswered")
                 self.addCleanup(page.driver.execute_script, "localStorage.clear()")
-                page.says(".unanswered summary", "1 command without an answer")
+                page.says(".unanswered summary", "1 change without an answer")
                 self.assertEqual(page.probe("hits"), before, route)
                 self.assertEqual(page.probe("faint"), [], route)
                 page.script("window.scrollTo(0, document.body.scrollHeight)")
@@ -391,7 +391,7 @@ class Live(Case):
         """It takes connections and answers nothing: every page says so, also one that sends nothing, until it goes on."""
         page = self.opened("/")
         go_on = self.stop(self.live.desk_process())
-        said = page.says(".alarm", "The desk is away: nothing can be saved now")
+        said = page.says(".alarm", "The book's server is away: nothing can be saved now")
         self.assertIn("no answer within 10 seconds", said)
         self.assertTrue(page.title.startswith("(!) "))
         go_on()
@@ -446,8 +446,8 @@ class Live(Case):
         go_on()
         for left in (1, 0):
             page.click(".again-above:enabled")
-            page.says(".unanswered", f"{left} command" if left else "Answered")
-        self.assertEqual(page.text(".unanswered").count("Saved as command"), 2)
+            page.says(".unanswered", f"{left} change" if left else "Answered")
+        self.assertEqual(page.text(".unanswered").count("Saved as change"), 2)
         self.assertEqual(self.live.number(), before + 2)
         page.go(f"{self.url}/network")
         self.assertEqual(page.text(".unanswered"), "")
@@ -559,7 +559,7 @@ class Live(Case):
         self.assertGreater(float(sizes[0][:-2]), 1.5 * float(sizes[1][:-2]))
         up_to_now, whole = (page.text(f".{name} .tile:nth-child(5) b").replace("\u2009", "") for name in shown[:2])
         self.assertLess(float(up_to_now), float(whole) / 100)
-        last = max(each.text for each in page.all(".tall td") if each.text[4:5] == "-")
+        last = max((each.text for each in page.all(".tall td") if each.text[4:5] == "-"), default="")
         self.assertLessEqual(last[:10], time.strftime("%Y-%m-%d", time.gmtime(time.time() + 7_200)))
         self.switch("close")
         page.says(".open-outages", "No outage is open.")
@@ -569,6 +569,12 @@ class Live(Case):
         page.open(f"{self.url}/enter?device=LBS-1")
         page.fill("Cause", "1")
         page.says(".forecast .open-end", "Counted to the period's end")
+        page.go(f"{self.url}/sheet?entry={self.live.entries()[0]['no']}&withdraw=yes")
+        told = page.says(".forecast", "will be without supply from ")
+        for words in (" on, still open: 1 section", "lost up to now: ", "Counted to the period's end"):
+            self.assertIn(words, told)
+        page.send()
+        self.assertIn("lost up to now: ", page.text(".outcome"))
 
     def test_a_closing_under_an_open_device_says_why(self) -> None:
         self.switch("open")
@@ -580,7 +586,7 @@ class Live(Case):
 
 
 OLD_WORDS = ["Desk: here", " commands,", "W moves", "moved W", "not told yet", "told anew", "stands", "2025-04-05"]
-OLD_WORDS += ["clock of the book's zone", "From that second on", "Another second", "Set its life", "unmarked", "Sheet"]
+OLD_WORDS += [" desk", "ommand", "clock of the book's zone", "From that second on", "Another second", "Set its life", "unmarked", "Sheet"]
 
 
 class Storm(Case):
@@ -738,7 +744,7 @@ class Breaks(Case):
         page.unanswered(1)
         page.says(".unanswered", "LBS-22 close at 2025-04-06 23:52:00 +02:00")
         page.click(".again-above")
-        page.says(".unanswered", "Saved as command 103: it was saved already, and nothing was done twice")
+        page.says(".unanswered", "Saved as change no. 103 of the book: it was saved already, and nothing was done twice")
         self.assertEqual(second.number(), 103)
 
 
@@ -766,7 +772,7 @@ class Pages(Case):
             "/sheet": ("35 of 35 entries", "status", "withdrawn", "OUT-0406-1", "OUT-0325-1"),
             "/network": ("12 devices", "until before", "without end", "10 nodes", "LIGHTHOUSE"),
             "/year": ("OUTAGE BOOK 2025-03-24", "without major", "147.195", "CEMI-10", "8 UNKNOWN", "2025-04-06"),
-            SHIFT: ("Open outages: 1", "LIGHTHOUSE", "39 min 59 s", "Outages that ended: 10", "Marked days"),
+            SHIFT: ("From 2025-03-24 00:00 up", "LIGHTHOUSE", "39 min 59 s", "ended: 10", "Handed over by", "Taken over by"),
         }
         screen, page = self.screen(), self.other
         for route, words in wanted.items():
@@ -864,9 +870,9 @@ class Pages(Case):
         self.assertEqual(json.loads(copy.call("/api/entries/35")[1]["history"][0]["text"])["no"], 102)
         self.one.open(f"{copy.url}/year", None)
         self.one.says("main", "194.126")
-        self.one.says(".state", "No desk: a copy")
+        self.one.says(".state", "A copy of a book")
         self.assertIn("from the book", self.one.text("main"))
-        self.assertNotIn("from the desk", self.one.text("main"))
+        self.assertNotIn("server", self.one.text("main"))
         self.assertNotIn("name", self.one.text("header").lower())
         self.shares_are_shares(self.one)
         cells = "return [...document.querySelectorAll('.index')].map((each) => each.innerText.split(' '))"

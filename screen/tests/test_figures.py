@@ -64,6 +64,9 @@ class Figures(offices.Case):
         self.assertEqual(await count(), 2)
         await self.switch("CB-1", "close", 600)  # told already: it doesn't count to the period's end
         self.assertEqual(await count(), 1)
+        with unittest.mock.patch("time.time", return_value=self.start + 1_000.0):
+            shown = await forecasts.forecast(self.office, "withdraw", ["3", "1"])
+        self.assertEqual((shown["up_to_now"], shown["total"]), (400, self.state.period.end - self.start - 600))
 
     async def test_a_mark_moves_the_unmarked_saidi(self) -> None:
         await self.switch("LBS-1", "open", 0)

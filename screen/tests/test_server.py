@@ -63,7 +63,7 @@ class Commands(support.Case):
         screen.post({**LIGHTHOUSE, "ref": "SCR-ANNA-C"})
         conflict = screen.post({**LIGHTHOUSE, "f5": "CREW-1", "ref": "SCR-ANNA-C"})[1]
         self.assertEqual((conflict["reply"]["refused"], conflict["reply"]["detail"]), (11, 103))
-        self.assertIn("number 103", conflict["words"])
+        self.assertIn("no. 103", conflict["words"])
 
     def test_commands_that_come_another_way(self) -> None:
         desk = self.desk()
