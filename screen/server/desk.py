@@ -16,6 +16,10 @@ IMPORT_SECONDS = 300.0
 SEND_SECONDS = 25.0  # for all tries of a command
 BETWEEN_TRIES = 0.25
 SHOWN_ERROR = 300
+ALONE: dict[str, Any] = {
+    "headers": {"Connection": "close"},
+    "allow_redirects": False,
+}  # a request of its own connection
 
 
 class Away(Exception):
@@ -47,8 +51,10 @@ class Desk:
         async with self.order:
             if self.url is None:
                 raise Away(self.why_away or "the book has no server")
+            limit = aiohttp.ClientTimeout(total=seconds)
             try:
-                answer = await self._once(method, self.url + route, body, seconds)
+                async with aiohttp.request(method, self.url + route, data=body, timeout=limit, **ALONE) as reply:
+                    answer = Answer(reply.status, await reply.read())
             except (aiohttp.ClientError, asyncio.TimeoutError, OSError) as error:
                 late = isinstance(error, asyncio.TimeoutError) and f"no answer within {seconds:.0f} seconds"
                 self.why_away = late or f"{type(error).__name__}: {error}"[:SHOWN_ERROR]
@@ -71,23 +77,17 @@ class Desk:
             self.is_busy = True
             raise Away("the book's server is busy") from None
 
-    async def _once(self, method: str, url: str, body: bytes | None, seconds: float) -> Answer:
-        limit = aiohttp.ClientTimeout(total=seconds)
-        connector = aiohttp.TCPConnector(force_close=True, limit=1)
-        async with aiohttp.ClientSession(connector=connector, timeout=limit, auto_decompress=False) as session:
-            headers = {"Connection": "close"}
-            async with session.request(method, url, data=body, headers=headers, allow_redirects=False) as reply:
-                return Answer(reply.status, await reply.read())
-
-    async def send(self, command: dict[str, str], seconds: float = SEND_SECONDS) -> tuple[Answer, int]:
+    async def send(self, command: dict[str, str]) -> tuple[Answer, int]:
         """Sends a command until it is answered, always under its reference: the answer, and how many tries it took."""
-        body = json.dumps(command).encode()
-        end = asyncio.get_running_loop().time() + seconds
-        tries = 0
+        return await self.insist("POST", "/commands", SEND_SECONDS, json.dumps(command).encode())
+
+    async def insist(self, method: str, route: str, seconds: float, body: bytes | None = None) -> tuple[Answer, int]:
+        """Asks until there is an answer: that, and how many tries it took."""
+        end, tries = asyncio.get_running_loop().time() + seconds, 0
         while True:
             tries += 1
             try:
-                return await self.ask("POST", "/commands", body), tries
+                return await self.ask(method, route, body), tries
             except Away:
                 if asyncio.get_running_loop().time() + BETWEEN_TRIES > end:
                     raise

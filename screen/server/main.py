@@ -23,7 +23,6 @@ from .state import State
 from .web import Settings, application
 
 FIRST_ANSWER_SECONDS = 600
-BETWEEN_TRIES = 0.5
 OPEN_FILES = 8_192
 LONGEST_LIMIT = 3_600
 
@@ -60,26 +59,13 @@ def read_words() -> argparse.Namespace:
     return given
 
 
-async def wait_for(desk: Desk) -> None:
-    """Waits until a desk answers: a large book takes its time to load."""
-    end = asyncio.get_running_loop().time() + FIRST_ANSWER_SECONDS
-    while True:
-        try:
-            await desk.ask("GET", "/commands/0")
-            return
-        except Away as away:
-            if asyncio.get_running_loop().time() > end:
-                raise BookError(f"the desk gives no answer: {away}") from None
-            await asyncio.sleep(BETWEEN_TRIES)
-
-
 async def start_desk(given: argparse.Namespace, at_end: AsyncExitStack) -> Desk | None:
     """The desk that is asked for, at work."""
     if given.no_desk:
         return None
     if given.desk:
         desk = Desk(given.desk.rstrip("/"))
-        await wait_for(desk)
+        await desk.insist("GET", "/commands/0", FIRST_ANSWER_SECONDS)  # a large book takes its time to load
         return desk
     own = OwnDesk(Desk(None), given.program, given.book.resolve())
     at_end.push_async_callback(own.end)

@@ -277,7 +277,8 @@ class Screen(Client):
 
 class Between:
     """A proxy before a port. It hands bytes on, counts POSTs and notes routes. It cuts the replies to some POSTs off; while it
-    has a status, it answers each request with that and a page of its own, as nginx does while the screen is away."""
+    has a status, it answers each request with that and a page of its own, as nginx does while the screen is away, or another
+    site."""
 
     def __init__(self, to: int = 0) -> None:
         self.to, self.status, self.is_held = to, 0, False

@@ -3,11 +3,9 @@
 import json
 import os
 import random
-import threading
 import time
 from collections import Counter
 from concurrent.futures import ThreadPoolExecutor
-from http.server import BaseHTTPRequestHandler, ThreadingHTTPServer
 
 import browser
 import support
@@ -586,7 +584,16 @@ class Live(Case):
 
 
 OLD_WORDS = ["Desk: here", " commands,", "W moves", "moved W", "not told yet", "told anew", "stands", "2025-04-05"]
-OLD_WORDS += [" desk", "ommand", "clock of the book's zone", "From that second on", "Another second", "Set its life", "unmarked", "Sheet"]
+OLD_WORDS += [
+    " desk",
+    "ommand",
+    "clock of the book's zone",
+    "From that second on",
+    "Another second",
+    "Set its life",
+    "unmarked",
+    "Sheet",
+]
 
 
 class Storm(Case):
@@ -744,7 +751,9 @@ class Breaks(Case):
         page.unanswered(1)
         page.says(".unanswered", "LBS-22 close at 2025-04-06 23:52:00 +02:00")
         page.click(".again-above")
-        page.says(".unanswered", "Saved as change no. 103 of the book: it was saved already, and nothing was done twice")
+        page.says(
+            ".unanswered", "Saved as change no. 103 of the book: it was saved already, and nothing was done twice"
+        )
         self.assertEqual(second.number(), 103)
 
 
@@ -772,7 +781,14 @@ class Pages(Case):
             "/sheet": ("35 of 35 entries", "status", "withdrawn", "OUT-0406-1", "OUT-0325-1"),
             "/network": ("12 devices", "until before", "without end", "10 nodes", "LIGHTHOUSE"),
             "/year": ("OUTAGE BOOK 2025-03-24", "without major", "147.195", "CEMI-10", "8 UNKNOWN", "2025-04-06"),
-            SHIFT: ("From 2025-03-24 00:00 up", "LIGHTHOUSE", "39 min 59 s", "ended: 10", "Handed over by", "Taken over by"),
+            SHIFT: (
+                "From 2025-03-24 00:00 up",
+                "LIGHTHOUSE",
+                "39 min 59 s",
+                "ended: 10",
+                "Handed over by",
+                "Taken over by",
+            ),
         }
         screen, page = self.screen(), self.other
         for route, words in wanted.items():
@@ -893,33 +909,17 @@ class Pages(Case):
             self.assertEqual(words, f"{part:.1f} %")
 
 
-class Elsewhere(BaseHTTPRequestHandler):
-    """A page of another origin."""
-
-    def do_GET(self) -> None:
-        data = b"<!DOCTYPE html><title>elsewhere</title><body></body>"
-        self.send_response(200)
-        self.send_header("Content-Type", "text/html")
-        self.send_header("Content-Length", str(len(data)))
-        self.end_headers()
-        self.wfile.write(data)
-
-    def log_message(self, *_: object) -> None:
-        pass
-
-
 class Origins(Case):
     def test_a_page_from_elsewhere_neither_reads_nor_acts(self) -> None:
         screen = self.screen()
-        server = ThreadingHTTPServer(("127.0.0.1", 0), Elsewhere)
-        threading.Thread(target=server.serve_forever, daemon=True).start()
-        self.addCleanup(server.server_close)
-        self.addCleanup(server.shutdown)
+        elsewhere = support.Between()
+        self.addCleanup(elsewhere.end)
+        elsewhere.answer(200)
         page = self.opened("/", screen.url)
         screen.log_in("ANNA")
         body = json.dumps({**LIGHTHOUSE, "ref": "SCR-ANNA-1"})
         for host in ("127.0.0.1", "localhost"):  # the same site on another port, and another site
-            page.driver.get(f"http://{host}:{server.server_port}/")
+            page.driver.get(f"http://{host}:{elsewhere.port}/")
             found = page.probe("tryFromElsewhere", screen.url, body, screen.headers["X-Screen-Token"])
             self.assertEqual(found, [""] * len(found))
             page.probe("postForm", screen.url, body)
