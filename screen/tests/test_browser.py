@@ -385,16 +385,6 @@ class Live(Case):
         ask = "return import('/static/common.js').then(({ get }) => get('/api/now', {}, 1)).catch((trouble) => trouble.message)"
         self.assertIn("no answer within 1 seconds", page.script(ask))
 
-    def test_a_desk_that_is_stopped_is_told_of(self) -> None:
-        """It takes connections and answers nothing: every page says so, also one that sends nothing, until it goes on."""
-        page = self.opened("/")
-        go_on = self.stop(self.live.desk_process())
-        said = page.says(".alarm", "The book's server is away: nothing can be saved now")
-        self.assertIn("no answer within 10 seconds", said)
-        self.assertTrue(page.title.startswith("(!) "))
-        go_on()
-        page.quiet()
-
     def test_a_computer_that_was_asleep(self) -> None:
         """Its connections died unheard, and its clock went on by an hour: the page says that it may be old, and begins anew."""
         for page, route in ((self.one, "/"), (self.other, "/enter?device=LBS-1")):
@@ -418,7 +408,9 @@ class Live(Case):
         self.other.wait(lambda: abs(self.other.script(shown) - time.time()) < 30, "the server's time")
 
     def test_commands_without_an_answer_stay_in_the_head_of_every_page(self) -> None:
-        """The desk hangs; the pages that sent are left: the commands are shown until they are answered, and act once."""
+        """The desk hangs, and takes connections: also a page that sends nothing says so. The pages that sent are left: the
+        commands are shown until they are answered, and act once."""
+        self.other.open(f"{self.url}/")
         self.switch("open")
         entry = self.live.entries()[0]["no"]
         before = self.live.number()
@@ -441,7 +433,11 @@ class Live(Case):
         page.driver.get(f"{self.url}/network")
         page.unanswered(2)
         self.assertIn("CB-1 open at 20", page.text(".unanswered"))
+        said = self.other.says(".alarm", "The book's server is away: nothing can be saved now")
+        self.assertIn("no answer within 10 seconds", said)
+        self.assertTrue(self.other.title.startswith("(!) "))
         go_on()
+        self.other.quiet()
         for left in (1, 0):
             page.click(".again-above:enabled")
             page.says(".unanswered", f"{left} change" if left else "Answered")

@@ -159,7 +159,8 @@ class Forecasts(offices.Case):
         self.assertIs(self.copy.process, process)
 
     async def test_an_outage_is_taken_back(self) -> None:
-        """Withdrawals one after the other: what they move is what was forecast, and the copy is the same one."""
+        """Withdrawals one after the other: what they move is what was forecast, and the copy is the same one. A step that is
+        refused is named, and those before it are taken back."""
         await self.begin(support.fortnight("back"))
         self.random = random.Random(5)
         for step in (steps := self.steps()):
@@ -168,10 +169,16 @@ class Forecasts(offices.Case):
         undo = [["withdraw", str(last - place), "1"] for place in range(len(steps))]
         await self.check_copy()
         process = self.copy.process
-        with self.assertRaisesRegex(state.Refused, f"step {len(undo) + 1}: the entry was withdrawn"):
-            await outage.forecast(self.office, [*undo, ["withdraw", str(last), "2"], ["withdraw", "1", "1"]])
-        with self.assertRaisesRegex(state.Refused, "step 2: somebody changed this entry: it has revision 1 by now"):
-            await outage.forecast(self.office, [undo[0], ["withdraw", str(last - 1), "9"]])
+        for refused, words in (
+            (
+                [*undo, ["withdraw", str(last), "2"], ["withdraw", "1", "1"]],
+                f"{len(undo) + 1}: the entry was withdrawn",
+            ),
+            ([undo[0], ["withdraw", str(last - 1), "9"]], "2: somebody changed this entry: it has revision 1 by now"),
+            ([steps[0], ["switch", "NOSUCH", *steps[0][2:]]], "[12]: the book knows no device NOSUCH"),
+        ):
+            with self.assertRaisesRegex(state.Refused, f"step {words}"):
+                await outage.forecast(self.office, refused)
         await self.act_on_steps(undo)
         await self.check_copy()
         await self.check_past()
@@ -186,15 +193,6 @@ class Forecasts(offices.Case):
             for step in [*self.steps(), *self.steps(), *self.steps()]:
                 await self.accept(*step)
             await self.check_copy()
-
-    async def test_what_a_step_is_refused_for(self) -> None:
-        """The step is named, and those before it are taken back."""
-        await self.begin(support.fortnight("refused"))
-        opened = ["switch", "CB-1", "open", str(FIRST + 60), "5", "CREW-3"]
-        with self.assertRaisesRegex(state.Refused, "step 2: the book knows no device NOSUCH"):
-            await outage.forecast(self.office, [opened, [*opened[:1], "NOSUCH", *opened[2:]]])
-        self.random = random.Random(6)
-        await self.check_copy()
 
     async def test_no_copy_is_told(self) -> None:
         """Without a copy nothing is guessed: the steps have no forecast, and it is said why."""

@@ -11,7 +11,7 @@ import time
 import urllib.parse
 from concurrent.futures import ThreadPoolExecutor
 from contextlib import suppress
-from datetime import date
+from datetime import date, timedelta
 from pathlib import Path
 from typing import Any, cast
 
@@ -150,8 +150,11 @@ class Figures(support.Case):
             status, shown = self.live.call(f"/api/sheet?{query}")
             self.assertEqual(status, 422, query)
             self.assertIn(words, shown["words"])
-        for query in ("section=ILL", "section=mill", "device=lbs", f"day={date.today().isoformat()}"):
+        today = date.fromisoformat(self.live.call("/api/book")[1]["today"])
+        for query in ("section=ILL", "section=mill", "device=lbs", "feeder=1&day=Today", f"day={today}"):
             self.assertGreater(self.live.call(f"/api/sheet?{query}")[1]["found"], 0, query)
+        for ago, word in enumerate(("Today", "yesterday")):
+            self.assertEqual(self.live.call(f"/api/sheet?day={word}")[1]["day"], str(today - timedelta(days=ago)))
 
     def test_what_the_desk_cannot_read_is_refused_before(self) -> None:
         for fields, words in (

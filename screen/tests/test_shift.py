@@ -4,7 +4,7 @@ import re
 import time
 import unittest.mock
 import urllib.parse
-from datetime import datetime, timedelta
+from datetime import datetime
 from typing import Any
 
 import browser
@@ -137,14 +137,6 @@ class Shift(support.Case):
         self.send("BACK", **life["undo"]["command"])
         joined = self.send("BACK", kind="connect", f1=str(time.time_ns() % 10**9), f2="MILL", f3="0", f4="")
         self.assertIsNone(joined["undo"])
-
-    def test_a_feeder_and_a_day_in_words(self) -> None:
-        entry = self.switch("DAY-1", "open")["entry"]
-        today = datetime.fromisoformat(ZONE.text_of(int(time.time()))).date()
-        found = self.get("/api/sheet", feeder="1", day="Today")
-        self.assertEqual((found["rows"][0]["no"], found["day"]), (entry, today.isoformat()))
-        self.assertEqual(self.get("/api/sheet", day="yesterday", crew="day-1")["found"], 0)
-        self.assertEqual(self.get("/api/sheet", day="yesterday")["day"], (today - timedelta(days=1)).isoformat())
 
 
 class Pages(support.Case):
