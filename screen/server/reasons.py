@@ -27,14 +27,12 @@ def still_cut_off(state: State, supply: Supply, number: int, entry: int) -> str 
 
 def open_above(state: State, number: int, closed: list[bool]) -> list[int]:
     """The open devices between a device and GRID, by the ways of normal positions; the nearest one first."""
-    layout = layout_of(len(state.nodes), state.devices)
+    layout = layout_of(state.devices, [(node,) for node in range(len(state.nodes))])
     node = min((state.devices[number].a, state.devices[number].b), key=lambda each: layout.layer[each])
     found = []
-    while (over := layout.above.get(node)) is not None:
-        if not closed[over]:
-            found.append(over)
-        device = state.devices[over]
-        node = device.a if device.b == node else device.b
+    while node in layout.above:
+        over, node = layout.above[node]
+        found += [] if closed[over] else [over]
     return found
 
 

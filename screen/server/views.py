@@ -124,12 +124,11 @@ def now_view(state: State, supply: Supply) -> Json:
 
 def diagram_view(state: State, supply: Supply) -> Json:
     """The one-line diagram: parts without supply first, the others by feeder."""
-    at, devices, nodes = supply.second, state.devices, len(state.nodes)
+    at, devices = supply.second, state.devices
     closed, supplied = closed_devices(state, supply), supplied_nodes(state, supply)
     order = [(int(supplied[number]), feeder, number) for number, (_, _, feeder) in enumerate(state.nodes)]
-    layout = layout_of(nodes, devices, order)
-    normal = normal_ways(nodes, devices, layout, closed)
-    tree = set(layout.above.values())
+    layout = layout_of(devices, order)
+    normal, tree = normal_ways(layout, closed), {number for number, _ in layout.above.values()}
     return {
         "nodes": [
             {
