@@ -19,7 +19,7 @@ import urllib.request
 from collections.abc import Callable, Iterable, Sequence
 from contextlib import suppress
 from datetime import datetime, timedelta, timezone
-from functools import lru_cache, partial
+from functools import lru_cache
 from pathlib import Path
 from typing import IO, Any
 
@@ -385,7 +385,11 @@ class Case(unittest.TestCase):
 
     def stop(self, process: int) -> Callable[[], None]:
         """Stops a process, which goes on when the answer is called, at the test's end at the latest."""
+
+        def go_on() -> None:
+            with suppress(ProcessLookupError):  # it was killed
+                os.kill(process, signal.SIGCONT)
+
         os.kill(process, signal.SIGSTOP)
-        go_on = partial(os.kill, process, signal.SIGCONT)
         self.addCleanup(go_on)
         return go_on

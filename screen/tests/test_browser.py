@@ -17,7 +17,6 @@ from test_server import LIGHTHOUSE
 COMMANDS = int(os.environ.get("SCREEN_COMMANDS", "24"))
 AWAY_SECONDS = float(os.environ.get("SCREEN_AWAY", "2"))  # in which the proxy answers 502
 LATE = "/enter?device=LBS-22&at=2025-04-06T23:52:00%2B02:00"
-LOSES = "/enter?device=CB-1&at=2025-04-06T20:52:00%2B02:00"
 SHIFT = "/shift?since=2025-03-24"
 
 
@@ -570,14 +569,6 @@ class Live(Case):
         page.send()
         self.assertIn("lost up to now: ", page.text(".outcome"))
 
-    def test_a_closing_under_an_open_device_says_why(self) -> None:
-        self.switch("open")
-        self.switch("open", "CB-1")
-        page = self.opened(f"/enter?device=LBS-1&at={self.second()}")
-        page.says("form", "LBS-1 is open then")
-        page.says(".forecast", "No section loses or gets back supply")
-        page.says(".forecast .reason", "Still cut off: above it CB-1 is open since 20")
-
 
 OLD_WORDS = ["Desk: here", " commands,", "W moves", "moved W", "not told yet", "told anew", "stands", "2025-04-05"]
 OLD_WORDS += [
@@ -633,6 +624,9 @@ class Storm(Case):
         page.says("form", "LBS-34 is open then")
         self.assertEqual(page.value("Switched to"), "close")
         page.says(".forecast", "gets back supply")
+        page.go(f"{self.url}/enter?device=LBS-21")
+        page.says(".forecast .reason", "Still cut off: above it CB-2 is open since 20")
+        self.assertIn("No section loses or gets back supply", page.text(".forecast"))
 
     def test_a_filter_stands_in_the_address(self) -> None:
         page = self.opened("/")
@@ -676,12 +670,17 @@ class Storm(Case):
         page.point_at(page.find("h1"))
         page.wait(lambda: len(self.devices(page)) == 4, "the rows without it")
 
-    def test_each_page_says_its_book_and_plain_words(self) -> None:
+    def test_each_page_fits_and_says_its_book_in_plain_words(self) -> None:
         """The book's name in head and title; words that nobody has to look up, in the fields too; where figures come from in one
-        line at the foot. Each field and table has a name of its own for readers of screens, and what a field expects can be
-        read."""
+        line at the foot. No page or table is cut off, on a phone what is tapped is 44 pixels high; each field, control and
+        table has a name of its own for readers of screens, and texts stand out from what is behind them."""
+        changed = self.live.switch("open", "LBS-12", ago=600)["entry"]
+        again = {"f3": "open", "f4": str(int(time.time()) - 700), "f5": "2", "f6": "BERT"}
+        self.live.send(kind="correct", f1=str(changed), f2="1", **again)
+        self.live.send(kind="withdraw", f1=str(changed), f2="2")
         routes = {
             "/": "Now",
+            f"/sheet?entry={changed}": "Switching log",
             "/sheet?entry=1": "Switching log",
             "/enter": "New switching",
             "/enter?device=CB-3": "New switching",  # two steps have a field of one name each
@@ -697,9 +696,16 @@ class Storm(Case):
                 self.assertEqual([old for old in [*OLD_WORDS, "computed here"] if old in page.probe("said")], [], route)
                 self.assertEqual(len(page.all(".foot")), 1)
                 page.find("main table, form")
+                if "device" in route:
+                    page.fill("Cause", "1")
+                    page.says(".forecast", "LOSES supply")
+                probes = ["cutOff", "nameless", "faint", "small"][: 4 if page is self.other else 3]
+                for probe in probes:
+                    self.assertEqual(page.probe(probe), [], (probe, route))
                 page.unfold("main")
                 for probe in ("faint",) if "device" in route else ("faint", "unheard"):
                     self.assertEqual(page.probe(probe), [], (probe, route))
+                self.assertEqual(page.complaints(), [], route)
 
     def test_a_forecast_is_a_few_lines(self) -> None:
         """Sections stand in one list below what happens to them and when; amounts and the reply are folded."""
@@ -754,22 +760,6 @@ class Breaks(Case):
 
 
 class Pages(Case):
-    def test_each_page_fits_and_can_be_read(self) -> None:
-        """No page or table is cut off, on a phone what is tapped is 44 pixels high, each field and control has a name, and texts
-        stand out from what is behind them."""
-        screen = self.screen()
-        for page in self.browsers:
-            for route in ("/", "/sheet", "/sheet?entry=10", LATE, LOSES, "/network", "/year", SHIFT):
-                page.open(screen.url + route)
-                if route == LOSES:
-                    page.fill("Cause", "5")
-                    page.says(".forecast", "LOSES supply")
-                page.find("main table")
-                time.sleep(0.3)
-                for probe in ("cutOff", "nameless", "faint") + (("small",) if page is self.other else ()):
-                    self.assertEqual(page.probe(probe), [], (probe, route))
-                self.assertEqual(page.complaints(), [], route)
-
     def test_pages_on_paper(self) -> None:
         """On A4 no column is cut off, forms aren't printed, and a dark page is printed dark on white."""
         wanted = {
@@ -843,6 +833,9 @@ class Pages(Case):
         self.one.script("arguments[0].value = 1743085200; arguments[0].dispatchEvent(new Event('input'));", slider)
         shown = "2025-03-27 15:20:00 +01:00"
         self.one.wait(lambda: self.one.value("Go to time") == shown, "the slider's moment")
+        slider.send_keys(Keys.PAGE_DOWN)
+        said = "2025-03-26 15:20:00 +01:00"  # the day before
+        self.one.wait(lambda: slider.get_attribute("aria-valuetext") == said, "what a reader of the screen hears")
 
     def test_a_tie_joins_and_a_day_is_marked(self) -> None:
         screen = self.screen()

@@ -34,10 +34,9 @@ def talk(port: int, data: bytes, seconds: float = 20) -> bytes:
 
 
 def is_running(process: int) -> bool:
-    try:
+    with suppress(OSError):
         return Path(f"/proc/{process}/stat").read_text().rpartition(")")[2].split()[0] != "Z"
-    except OSError:
-        return False
+    return False
 
 
 class Commands(support.Case):
@@ -278,38 +277,30 @@ class Faults(support.Case):
         self.assertEqual([command.ref for command, _ in anew], [f"SCR-ANNA-{number}" for number in range(sent)])
 
     def has_desk(self, screen: support.Screen) -> bool:
-        try:
-            screen.desk_process()
-        except (OSError, StopIteration):
-            return False
-        return bool(screen.call("/health")[1]["desk"] == "here")
-
-    def test_a_desk_that_is_away(self) -> None:
-        desk = self.desk()
-        screen = self.screen(desk=desk, login="ANNA")
-        desk.kill()
-        support.until(lambda: screen.call("/health")[1]["desk"] == "away", what="the desk away")
-        self.assertEqual(screen.call("/health")[0], 503)
-        self.assertEqual(screen.call("/api/now")[0], 200)
-        forecast = "/api/forecast?kind=switch&f1=LBS-22&f2=close&f3=1743976320&f4=5&f5=ANNA"
-        self.assertEqual(screen.call(forecast)[1]["total"], -1_440)  # the copy says so
-        self.desk(desk.book, desk.port)
-        support.until(lambda: screen.call("/health")[1]["desk"] == "here", what="the desk here")
+        with suppress(OSError, StopIteration):
+            return screen.desk_process() > 0 and bool(screen.call("/health")[1]["desk"] == "here")
+        return False
 
     def test_pages_while_the_desk_hangs(self) -> None:
-        """The copy answers in its place after a short wait, the steps of an outage among others."""
-        screen = self.screen()
+        """The copy answers in its place after a short wait, the steps of an outage among others; also where it is killed then."""
+        desk = self.desk()
+        screen = self.screen(desk=desk)
         steps = [["switch", "LBS-22", position, "1743976320", "5", "ANNA"] for position in ("close", "open")]
         forecast = f"/api/forecast?{urllib.parse.urlencode({'steps': json.dumps(steps)})}"
         self.assertEqual(screen.call(forecast)[0], 200)  # there is a copy
         before = screen.call("/api/now")[1]
-        self.stop(screen.desk_process())
+        self.stop(desk.process.pid)
         begun = time.monotonic()
         self.assertEqual(screen.call("/api/now")[1], before)
         routes = (forecast, "/api/position?device=LBS-22", "/api/changes", "/api/sheet?feeder=1", "/api/entries/35")
         for route in routes:
             self.assertEqual(screen.call(route)[0], 200, route)
         self.assertLess(time.monotonic() - begun, support.limit(6.0))
+        desk.kill()
+        support.until(lambda: screen.call("/health")[0] == 503, what="the desk away")
+        self.assertEqual(screen.call(f"/api/forecast?{urllib.parse.urlencode(LIGHTHOUSE)}")[1]["total"], -1_440)
+        self.desk(desk.book, desk.port)
+        support.until(lambda: screen.call("/health")[1]["desk"] == "here", what="the desk here")
 
     def test_the_screen_takes_its_desk_and_the_copy_with_it(self) -> None:
         screen = self.screen()
