@@ -210,7 +210,7 @@ async def json_body(request: web.Request) -> dict[str, str]:
 # Pages and what they read.
 
 
-TYPES = {".html": "text/html", ".js": "text/javascript", ".css": "text/css", ".svg": "image/svg+xml"}
+TYPES = {".js": "text/javascript", ".css": "text/css", ".svg": "image/svg+xml"}
 
 
 def file(name: str) -> web.StreamResponse:
@@ -221,7 +221,8 @@ def file(name: str) -> web.StreamResponse:
 
 
 async def page(request: web.Request) -> web.StreamResponse:
-    return file(f"{PAGES[request.path]}.html")
+    text = (STATIC / "page.html").read_text().replace("{page}", PAGES[request.path])
+    return web.Response(text=text, content_type="text/html", charset="utf-8")
 
 
 async def static(request: web.Request) -> web.StreamResponse:

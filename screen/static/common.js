@@ -168,6 +168,8 @@ const PAGES = [
   ["/year", "Figures"],
   ["/shift", "Hand-over"],
 ];
+const heading = document.querySelector("main h1");
+heading.textContent = PAGES.find(([href]) => href === location.pathname)[1];
 const state = el("span", { role: "status", class: "state" });
 const printed = el("span", { class: "print-only" });
 window.addEventListener("beforeprint", () => { printed.textContent = `Printed ${new Date().toLocaleDateString("sv-SE")} ${time()} by this computer's clock`; });
@@ -182,7 +184,6 @@ function head() {
   const me = known.me;
   const rename = me.asks_name && me.could_send ? el("button", { type: "button", class: "small", "aria-label": "Change name", click: () => askName(true) }, "Change") : "";
   const who = el("span", {}, me.name ? `You are ${me.name}${me.may_send ? "" : ", looking only"}` : me.could_send ? "No name yet" : "Looking only");
-  const heading = document.querySelector("main h1");
   title = `${heading.textContent} - ${me.training ? "TRAINING - " : ""}${me.book} - outage book`;
   document.body.classList.toggle("training", me.training);
   document.getElementById("head").replaceChildren(
@@ -203,7 +204,8 @@ function say(place, words) {
 }
 
 const alarms = new Map(); // why what is shown may be old or wrong, by what it comes from
-let title = document.title;
+let title = `${heading.textContent} - outage book`;
+showTitle();
 
 /** The tab's title: an alarm, or how many outages are new, comes first. */
 function showTitle() {
@@ -330,7 +332,7 @@ async function ask() {
       [known.me, known.book] = await Promise.all([get("/api/me"), get("/api/book")]);
       return;
     } catch (trouble) {
-      document.querySelector("main h1").before(banner);
+      heading.before(banner);
       alarm("server", `Nothing can be shown: ${trouble.message}. This page tries again by itself.`);
       await new Promise((resolve) => setTimeout(resolve, AGAIN_SECONDS * 1000));
     }
