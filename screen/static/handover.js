@@ -18,7 +18,7 @@ const asked = () => Object.fromEntries(Object.entries(inputs).map(([name, input]
 const entryLink = (entry) => (entry ? el("a", { href: `/sheet?entry=${entry}` }, `entry ${entry}`) : "");
 const withRemark = (words, { remark }) => (remark ? `${words} (${remark})` : words);
 const deviceOf = (outage) => outage.device ?? "no switching";
-const sectionsOf = ({ sections }) => `${number(sections.length)}: ${[...sections].sort().join(", ")}`;
+const sectionsOf = ({ sections }) => `${number(sections.length)}: ${sections.map((row) => row.section).sort().join(", ")}`;
 const done = (each, at) => el("div", {}, at ? "; " : "", `${each.what} at `, listed(each.at), withRemark(` by ${each.by}`, each));
 const counted = (rows, found) => (rows.length === found ? number(found) : `the latest ${number(rows.length)} of ${number(found)}`);
 

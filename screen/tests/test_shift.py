@@ -229,7 +229,7 @@ class Stops(support.Case):
         shown = again.call("/api/changes")[1]
         self.assertEqual([row["no"] for row in shown["entered"]], [1, 2])
         ended = [(row["entry"], row["sections"], row["customers"]) for row in shown["ended"]]
-        self.assertEqual((shown["open"], ended), ([], [(1, ["MILL"], 2)]))
+        self.assertEqual((shown["open"], ended), ([], [(1, [{"section": "MILL", "customers": 2}], 2)]))
 
     def test_a_period_that_is_over(self) -> None:
         """It is looked at, told and handed over at its last second; that today is no day of it is said."""
