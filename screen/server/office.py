@@ -8,7 +8,7 @@ from contextlib import contextmanager, suppress
 from pathlib import Path
 from typing import Any
 
-from . import refusals, undo, views
+from . import refusals, views
 from .answers import Plan, Supply, command_body, moves_in, plan_in, supply_in
 from .apart import Apart, Kept
 from .commands import FIELDS, fields_of
@@ -130,7 +130,7 @@ class Office:
 
     def take(self, command: Command, moves: Moves) -> None:
         """Takes the next command."""
-        self.undos[command.number] = undo.undo_of(self.state, command)
+        self.undos[command.number] = self.state.undo_of(command)
         self.state.take(command)
         self.copy.note(command, moves)
         self.undos.pop(command.number - KEPT_UNDOS, None)
