@@ -297,9 +297,11 @@ class Live(Case):
             page.go(url)
         return handles
 
-    def ten(self, kind: str, position: str, seen: str) -> None:
+    def ten(self, kind: str, position: str, seen: str) -> list[str]:
+        """A switching from the first of ten pages is seen on all: their handles."""
         page = self.one
         page.open(f"{self.url}/")
+        first = page.driver.current_window_handle
         routes = ("/enter?device=LBS-1", "/sheet", "/network", "/year", "/", "/enter", "/", "/network", "/sheet")
         handles = self.windows(page, kind, [self.url + route for route in routes])
         page.driver.switch_to.window(handles[0])
@@ -313,22 +315,18 @@ class Live(Case):
         page.driver.switch_to.window(handles[8])
         page.says("main table", str(len(self.live.entries())))
         self.assertEqual(page.text(".alarm"), "")
+        return [first, *handles]
 
     def test_ten_tabs_or_windows_of_one_browser(self) -> None:
-        """A browser opens six connections to a server: with a stream of events for each page the seventh page got nothing."""
+        """A browser opens six connections to a server: with a stream of events for each page the seventh page got nothing. The
+        window that has it is left at last."""
         self.ten("tab", "open", "MILL")
-        self.ten("window", "close", "All sections are supplied")
-
-    def test_the_window_that_has_the_stream_is_closed(self) -> None:
-        page = self.opened("/")
-        first = page.driver.current_window_handle
-        second = self.windows(page, "window", [f"{self.url}/"])[0]
-        page.says("main", "All sections are supplied")
-        page.driver.switch_to.window(first)
-        page.driver.get(f"{self.url}/static/icon.svg")
-        page.driver.switch_to.window(second)
+        handles = self.ten("window", "close", "All sections are supplied")
+        self.one.driver.switch_to.window(handles[0])
+        self.one.driver.get(f"{self.url}/static/icon.svg")
+        self.one.driver.switch_to.window(handles[5])
         self.switch("open")
-        page.says("main table", "MILL")
+        self.one.says("main table", "MILL")
 
     def test_after_any_answer_a_page_hears_again(self) -> None:
         """What stands before the screen answers 502, 503 or 401 for a while: the page says so, and is current afterwards."""
