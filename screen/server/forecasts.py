@@ -182,5 +182,4 @@ def open_words(state: State, supply: Supply, number: int) -> str:
         return f"{device.name} isn't in the network"
     if entry is None:
         return f"{device.name} is normally open"
-    text = state.period.zone.text_of(entry.second)
-    return f"{device.name} is open since {text[:10]} {text[11:19]}"
+    return f"{device.name} is open since {state.period.zone.short_text(entry.second)}"

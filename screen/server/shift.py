@@ -176,9 +176,7 @@ def entered_by(state: State, sendings: Iterable[Sending]) -> dict[int, list[Json
 def numbers_of(state: State, sending: Sending) -> list[int]:
     """The commands of a sending that made or changed an entry, latest first."""
     first, last = (sending.number, sending.number) if sending.number is not None else sending.commands or (1, 0)
-    span = range(first, last + 1)
-    shorter = span if len(span) < len(state.changed) else state.changed
-    return sorted((number for number in shorter if number in span and number in state.changed), reverse=True)
+    return [number for number in range(last, first - 1, -1) if number in state.changed]
 
 
 def ended_view(state: State, past: Past, since: int, until: int) -> list[Json]:
@@ -196,16 +194,12 @@ def ended(state: State, section: str, since: int, until: int, entry: int) -> Out
 
 def marks_view(office: Office) -> list[Json]:
     """The marked days, each with who marked it, and when, where the log knows that."""
-    state, told = office.state, dict[str, Sending]()
-    for sending in office.journal.sendings:
-        if sending.kind == "mark" and sending.outcome == "saved":
-            told[sending.fields[0]] = sending
-    rows = []
+    state, rows = office.state, list[Json]()
+    marks = (each for each in office.journal.sendings if each.kind == "mark" and each.outcome == "saved")
+    told = {tuple(each.fields): each for each in marks}
     for number, engineer in sorted(state.marks.items()):
         day = day_name(state, number)
-        row: Json = {"day": day, "engineer": engineer, "at": None, "login": ""}
-        found = told.get(day)
-        if found is not None and found.fields[1] == engineer:
-            row |= {"at": moment(state, found.at), "login": found.login}
-        rows.append(row)
+        found = told.get((day, engineer))
+        at, login = (moment(state, found.at), found.login) if found else (None, "")
+        rows.append({"day": day, "engineer": engineer, "at": at, "login": login})
     return rows

@@ -53,9 +53,13 @@ def device_view(state: State, number: int) -> Json:
         "a": device.a,
         "b": device.b,
         "normal": "closed" if device.is_closed else "open",
-        "since": text(state, device.since) if device.since else "",
-        "until": "" if device.until is None else text(state, device.until),
+        **span_view(state, device.since, device.until),
     }
+
+
+def span_view(state: State, since: int, until: int | None) -> Json:
+    """From when and until when, where it isn't always."""
+    return {"since": text(state, since) if since else "", "until": "" if until is None else text(state, until)}
 
 
 def reference_of(state: State, entry: int) -> str:
@@ -231,8 +235,5 @@ def customers_view(state: State, query: dict[str, str]) -> Json:
     if node is None or not state.is_section(node):
         return {"section": section, "customers": [], "found": 0}
     section, numbers = state.nodes[node][0], sorted(state.members[node]) if only is None else [only]
-    rows = []
-    for each in numbers[:500]:
-        _, since, until = state.customers[each]
-        rows.append({"no": each, "since": text(state, since), "until": "" if until is None else text(state, until)})
+    rows = [{"no": each, **span_view(state, *state.customers[each][1:])} for each in numbers[:500]]
     return {"section": section, "customers": rows, "found": len(numbers)}

@@ -110,7 +110,7 @@ async function showCustomers(asked) {
     customers.replaceChildren(el("p", { class: "warn" }, asked.number ? `No customer has the number ${asked.number}.` : `${section} has no customers.`));
     return;
   }
-  const rows = shown.customers.map((row) => [String(row.no), row.since, row.until || "without end"]);
+  const rows = shown.customers.map((row) => [String(row.no), row.since || "always", row.until || "without end"]);
   const more = shown.found > shown.customers.length ? ` The first ${shown.customers.length} are shown.` : "";
   customers.replaceChildren(el("div", { class: "card", tabindex: "-1" }, el("h2", {}, asked.number ? `Customer ${asked.number}: section ${section}` : `${number(shown.found)} customers of ${section}`), el("p", {}, el("a", { href: `/?text=${section}` }, `Outages of ${section} now`), more), scrolling("Customers", table(["#customer", "in service from", "until before"], rows, `Customers of ${section}`))));
   customers.firstElementChild.focus();
