@@ -40,7 +40,7 @@ class Hub:
 
     def count(self, login: str) -> int:
         """The open pages of a login."""
-        return sum(each == login for each in self.pages.values())
+        return list(self.pages.values()).count(login)
 
     def tell(self, event: dict[str, Any]) -> None:
         for page in self.pages:
@@ -175,8 +175,8 @@ class Office:
             answer, tries = await self.desk.send(command)
         except Away as away:
             return self.unanswered(login, command["ref"], away)
-        self.journal.write(login, command["ref"], status=answer.status, answer=body_of(answer))
         reply = answer.json()
+        self.journal.write(login, command["ref"], status=answer.status, answer=reply)
         if answer.status != 200:
             return answer.status, await self.refused(command, reply, answer)
         number, moves = reply["no"], moves_in(reply)
@@ -216,7 +216,7 @@ class Office:
         finally:
             self.is_importing = False
         commands = [known + 1, self.state.number] if self.state.number > known else None
-        self.journal.write(login, "", status=answer.status, answer=body_of(answer), commands=commands)
+        self.journal.write(login, "", status=answer.status, answer=answer.json(), commands=commands)
         return answer.status, {"reply": answer.json(), "text": answer.body.decode()}
 
     # What the desk says; while it gives no answer, its copy.
@@ -276,14 +276,6 @@ class Office:
                 self.past_known = await self.tables.run(past_outages, state.period, *rows)
                 self.past_of = number
             return self.past_known
-
-
-def body_of(answer: Answer) -> Any:
-    """The body of an answer for the log: as JSON where it is that."""
-    try:
-        return answer.json()
-    except ValueError:
-        return answer.body.decode(errors="replace")
 
 
 def is_canonical(command: Command) -> bool:
