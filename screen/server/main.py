@@ -6,10 +6,8 @@ import logging
 import resource
 import signal
 import sys
-from collections.abc import AsyncIterator, Coroutine
-from contextlib import AsyncExitStack, asynccontextmanager
+from contextlib import AsyncExitStack
 from pathlib import Path
-from typing import Any
 
 from aiohttp import web
 
@@ -83,18 +81,6 @@ async def known_state(copy: DeskCopy, book: Path) -> State:
     return state
 
 
-@asynccontextmanager
-async def meanwhile(*works: Coroutine[Any, Any, object]) -> AsyncIterator[None]:
-    """Does some works beside what is done here; then they are broken off."""
-    tasks = [asyncio.create_task(each) for each in works]
-    try:
-        yield
-    finally:
-        for task in tasks:
-            task.cancel()
-        await asyncio.gather(*tasks, return_exceptions=True)
-
-
 async def serve(given: argparse.Namespace) -> None:
     ended, book = asyncio.Event(), given.book.resolve()
     for each in (signal.SIGTERM, signal.SIGINT):
@@ -110,8 +96,9 @@ async def serve(given: argparse.Namespace) -> None:
             if (await desk.ask("GET", f"/supply/{state.now()}")).status == 404:
                 raise BookError("the desk's program is older than this screen")
             office.note_start()
-        async with meanwhile(office.past(), *([office.watch()] if desk else [])):
-            await listen(given, office, ended)
+        for work in (office.past(), *([office.watch()] if desk else [])):
+            at_end.callback(asyncio.create_task(work).cancel)
+        await listen(given, office, ended)
 
 
 async def listen(given: argparse.Namespace, office: Office, ended: asyncio.Event) -> None:
