@@ -122,9 +122,7 @@ async def listen(given: argparse.Namespace, office: Office, ended: asyncio.Event
         await ended.wait()
     finally:
         server.close()
-        await runner.shutdown()
         await web_server.shutdown(1.0)
-        await runner.cleanup()
 
 
 def main() -> int:

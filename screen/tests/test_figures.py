@@ -7,13 +7,13 @@ from fractions import Fraction
 from pathlib import Path
 from typing import Any
 
-import offices
 import support
 from server import forecasts, to_now, year
 from support import END, FIRST
+from test_forecasts import Case
 
 
-class Figures(offices.Case):
+class Figures(Case):
     """One customer at QUAY and two at MILL, behind LBS-1."""
 
     async def asyncSetUp(self) -> None:
@@ -86,7 +86,7 @@ class Figures(offices.Case):
         self.assertIsNone((await self.forecast("LBS-1", "open", 20))["reason"])
 
 
-class Shorter(offices.Case):
+class Shorter(Case):
     async def test_they_are_those_of_a_book_that_ends_there(self) -> None:
         """Random switchings in the sample's network: a book of the first days alone says what the longer one says up to them."""
         chance, rows = random.Random(8), (support.FORTNIGHT_FILES / "fortnight.csv").read_text().splitlines()[1:]

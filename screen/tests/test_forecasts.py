@@ -1,26 +1,56 @@
 """Forecasts against the desk: what was forecast is what it moved; the rows that are kept in step are those that are read anew,
 and the copy that follows the desk answers as it does."""
 
+import asyncio
 import os
 import random
+import time
 import unittest.mock
+from pathlib import Path
 from typing import Any
 
-import offices
 import support
 from server import diagram, forecasts, outage, reader, state
-from server.office import new_state
+from server.answers import moves_in
+from server.desk import Desk
+from server.deskcopy import DeskCopy
+from server.journal import Journal
+from server.office import Office, accepted, new_state
 from support import END, FIRST
 
 COMMANDS = int(os.environ.get("SCREEN_FORECASTS", "300"))
 Step = list[str]
 
 
+class Case(unittest.IsolatedAsyncioTestCase):
+    """A test over a desk of its own; commands are sent to that, as by another client, and told to the office."""
+
+    async def begin(self, book: Path) -> None:
+        asyncio.get_running_loop().slow_callback_duration = 60.0
+        self.desk = support.Desk(book)
+        self.addCleanup(self.desk.kill)
+        self.copy = DeskCopy(str(support.PROGRAM), book)
+        self.addAsyncCleanup(self.copy.end)
+        self.office = Office(book, new_state(book), Desk(self.desk.url), self.copy, Journal(None))
+        self.state = self.office.state
+
+    async def accept(self, kind: str, *fields: str) -> reader.Moves | None:
+        """Sends a command: what it moved, None where it is refused."""
+        told = {f"f{place}": "" if text == "-" else text for place, text in enumerate(fields, 1)}
+        command = {"kind": kind, "ref": f"T-{time.time_ns()}", **told}
+        status, reply = self.desk.post(command)
+        if status != 200:
+            return None
+        moves = moves_in(reply)
+        await self.office.learn(reply["no"], accepted(reply["no"], command), moves)
+        return moves
+
+
 def listed(moves: reader.Moves | None) -> list[list[Any]] | None:
     return None if moves is None else [list(move) for move in moves]
 
 
-class Forecasts(offices.Case):
+class Forecasts(Case):
     """Random commands, each forecast before it is sent."""
 
     def moment(self) -> int:
