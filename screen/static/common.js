@@ -59,7 +59,7 @@ export function breakable(words) {
 export const idle = window.requestIdleCallback ? (work) => requestIdleCallback(work, { timeout: 300 }) : (work) => setTimeout(work, 20);
 
 const SLICE = 100; // rows that are drawn in one go
-const COLUMNS = { "#": "n", "~": "no-print" };
+export const COLUMNS = { "#": "n", "~": "no-print" }; // classes of a column, by how its head begins
 
 /** Draws rows into a table, a slice at a time, for as long as it is shown. */
 function drawRows(body, rows, draw) {
@@ -361,6 +361,7 @@ export function reloadBook() {
   return get("/api/book").then((book) => (known.book = book));
 }
 
+export const feeders = () => [...new Set(known.book.nodes.map((node) => node.feeder).filter(Boolean))].sort((one, other) => one - other).map((each) => [String(each), String(each)]);
 export const causes = () => known.book.causes.filter(([code]) => code > 0).map(([code, name]) => [String(code), `${code} ${name}`]);
 
 /** Whose figures are those of the program, as this page gets them. */

@@ -1,6 +1,6 @@
 // Outages: what one switching cut off and is still without supply, largest first; filtered and sorted by the page's address.
 import { fromAddress, toAddress } from "./address.js";
-import { breakable, BRIEF, causes, choice, duration, el, field, known, lacksName, number, settled, text, toName } from "./common.js";
+import { breakable, BRIEF, causes, choice, duration, el, feeders, field, known, lacksName, number, settled, text, toName } from "./common.js";
 import { momentFrom, ticketOf } from "./elements.js";
 import { KeyedTable } from "./keyed.js";
 
@@ -37,9 +37,8 @@ export class Outages {
   }
 
   fields() {
-    const feeders = [...new Set(known.book.nodes.map((node) => node.feeder).filter(Boolean))].sort((one, other) => one - other);
     this.inputs = {
-      feeder: choice([["", "all"], ...feeders.map((each) => [String(each), String(each)])], this.wanted.feeder),
+      feeder: choice([["", "all"], ...feeders()], this.wanted.feeder),
       cause: choice([["", "all"], ...causes()], this.wanted.cause),
       text: text({ value: this.wanted.text, "data-search": "yes" }),
       order: choice(Object.entries(ORDERS), this.wanted.order || "largest"),

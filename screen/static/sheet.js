@@ -1,6 +1,6 @@
 // The switching log: entries, what each command moved, corrections and withdrawals; and the screen's own log.
 import { fromAddress, toAddress } from "./address.js";
-import { begin, causes, choice, el, field, foot, get, known, list, lookOnly, momentWords, number, onCommands, renew, scrolling, settled, source, spelled, table, text, zoneName } from "./common.js";
+import { begin, causes, choice, el, feeders, field, foot, get, known, list, lookOnly, momentWords, number, onCommands, renew, scrolling, settled, source, spelled, table, text, zoneName } from "./common.js";
 import { Draft } from "./drafts.js";
 import { listed, ticketOf } from "./elements.js";
 import { MomentField } from "./moments.js";
@@ -48,8 +48,6 @@ function clear() {
   for (const [name, input] of Object.entries(inputs)) if (name in SEARCHED) input.value = "";
   search();
 }
-
-const feeders = () => [...new Set(known.book.nodes.filter((node) => node.kind === 2).map((node) => node.feeder))].sort((one, other) => one - other).map((each) => [String(each), String(each)]);
 
 async function filters() {
   const make = (name, input) => {

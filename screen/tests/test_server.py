@@ -212,21 +212,17 @@ class Reports(support.Case):
             made[0] += 1
             await asyncio.sleep(0.01)
             if version[0] == "none":
-                raise Away("the desk gives no answer")
+                raise Away("no answer")
             return made[0]
 
-        async def all_of(kept: apart.Kept) -> list[Any]:
-            return list(await asyncio.gather(*(kept.get() for _ in range(5)), return_exceptions=True))
-
-        async def ask() -> list[list[Any]]:
-            kept = apart.Kept(lambda: version[0], make)
-            found = []
+        async def ask() -> list[set[str]]:
+            kept, found = apart.Kept(lambda: version[0], make), []
             for version[0] in ("one", "one", "two", "none", "none", "three"):
-                found.append([str(each) for each in await all_of(kept)])
+                five = await asyncio.gather(*(kept.get() for _ in range(5)), return_exceptions=True)
+                found.append(set(map(str, five)))
             return found
 
-        away = "the desk gives no answer"
-        self.assertEqual(asyncio.run(ask()), [[each] * 5 for each in ("1", "1", "2", away, away, "5")])
+        self.assertEqual(asyncio.run(ask()), [{"1"}, {"1"}, {"2"}, {"no answer"}, {"no answer"}, {"5"}])
 
     def test_the_table_is_asked_for_once_a_command(self) -> None:
         _, proxy, screen = self.between()
