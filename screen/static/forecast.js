@@ -27,10 +27,11 @@ function amountRows(moved) {
   return rows;
 }
 
-/** What moves; where a day to come is among it, it counts to the period's end. */
+/** What moves; where the period's last day is to come and among it, it counts to the period's end. */
 export function movesTable(moved) {
-  const isToCome = moved.some(([dim, key]) => dim === "day" && dayName(key) > known.book.today);
-  const heads = ["of", `#customer-seconds${isToCome ? ", to the period's end" : ""}`];
+  const last = known.book.days.at(-1);
+  const isToEnd = last > known.book.today && moved.some(([dim, key]) => dim === "day" && dayName(key) === last);
+  const heads = ["of", `#customer-seconds${isToEnd ? ", to the period's end" : ""}`];
   return moved.length ? table(heads, amountRows(moved), "Amounts that change") : el("p", {}, "Nothing changes.");
 }
 
@@ -46,7 +47,8 @@ function kindOf({ loses, gets_back: back }, isChange) {
 /** Up to when, and how long a section is without supply more, or less, than before; what goes on now has no length yet. */
 function endWords({ since, until, loses, gets_back: back }) {
   const whole = until.second - since.second, isWhole = loses + back === whole;
-  if (isAtEnd(until) && isLive()) return [` on${isWhole ? "" : ", with breaks"}${loses && !back ? ", still open" : ""}`];
+  const isOpen = loses && !back && since.second * 1000 <= Date.now();
+  if (isAtEnd(until) && isLive()) return [` on${isWhole ? "" : ", with breaks"}${isOpen ? ", still open" : ""}`];
   const ends = isAtEnd(until) ? [" on"] : [" to ", moment(until)];
   if (loses && back) return [...ends, ` (${duration(loses)} more, ${duration(back)} less)`];
   return [...ends, ` (${duration(loses || back)}${isWhole ? "" : " of it"})`];
