@@ -715,8 +715,9 @@ class Storm(Case):
         self.assertLess(len(told.splitlines()), 16, told)
         self.assertNotIn("feeder 3", told)
         page.unfold(".forecast")
-        page.says(".forecast .amounts", "feeder 3")
-        self.assertIn("days, ", page.text(".forecast .amounts"))
+        amounts = page.says(".forecast .amounts", "feeder 3")
+        for words in ("customer-seconds, to the period's end", "days, "):
+            self.assertIn(words, amounts)
 
 
 class Breaks(Case):
