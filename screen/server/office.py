@@ -222,9 +222,10 @@ class Office:
     # What the desk says; while it gives no answer, its copy.
 
     async def supply(self, second: int) -> Supply:
-        """The supply at a second of the period."""
+        """The supply at a second of the period. What it speaks of may have come another way a moment ago."""
         found = await self.supply_now(second)
-        if self.has_desk and not self.knows(found):
+        last, names = max((row.entry for row in found.outages), default=0), self.state.device_numbers.keys()
+        if self.has_desk and (last > len(self.state.entries) or found.closed.keys() != names):
             await self.look()
         return found
 
@@ -233,12 +234,6 @@ class Office:
             return supply_in(await self.desk.look(f"/supply/{second}"))
         except Away:
             return await self.copy.supply(second)
-
-    def knows(self, supply: Supply) -> bool:
-        """Whether the state has all that a supply speaks of: it may have come another way a moment ago."""
-        last = max((row.entry for row in supply.outages), default=0)
-        names = self.state.device_numbers.keys()
-        return last <= len(self.state.entries) and supply.closed.keys() == names
 
     async def plan(self, kind: str, fields: Sequence[str]) -> Plan:
         """What a command would do."""

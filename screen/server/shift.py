@@ -180,16 +180,14 @@ def numbers_of(state: State, sending: Sending) -> list[int]:
 
 
 def ended_view(state: State, past: Past, since: int, until: int) -> list[Json]:
-    """The outages that ended from a second up to another, and not at the period's end."""
-    end = min(until, state.now() + 1, state.period.end)
-    found = ((name, row) for name, rows in past.items() for row in rows if since <= row[1] < end)
-    return outages_of(state, (ended(state, name, *row) for name, row in found))
-
-
-def ended(state: State, section: str, since: int, until: int, entry: int) -> Outage:
-    """A past outage, with the customers that it had when it began."""
-    customers = state.customers_at(state.node_numbers[section], since)
-    return Outage(section, since, until, entry, state.entries[entry - 1].cause if entry else 0, customers)
+    """The outages that ended from a second up to another, and not at the period's end, with their customers when they began."""
+    end, found = min(until, state.now() + 1, state.period.end), list[Outage]()
+    for name, rows in past.items():
+        for begun, ended, entry in (row for row in rows if since <= row[1] < end):
+            cause = state.entries[entry - 1].cause if entry else 0
+            customers = state.customers_at(state.node_numbers[name], begun)
+            found.append(Outage(name, begun, ended, entry, cause, customers))
+    return outages_of(state, found)
 
 
 def marks_view(office: Office) -> list[Json]:

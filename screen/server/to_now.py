@@ -40,17 +40,12 @@ async def outages_behind(office: Office, end: int) -> list[Outage]:
     return list(found.values())
 
 
-def served(state: State, end: int) -> int:
-    """Customer-seconds in service up to a second."""
-    return sum(state.served(node, state.period.first, end) for node in state.sections())
-
-
 def indices_up_to(
     state: State, indices: Json, end: int, behind: Iterable[Outage], marked: Container[int]
 ) -> dict[str, list[str]]:
     """The indices up to a second, as the annual table writes them: from the desk's, with the outages behind that second cut
     there; those that begin on a marked day are left out."""
-    counts = Counts(indices["sustained"])
+    counts, first = Counts(indices["sustained"]), state.period.first
     if counts.sustained:
         counts.sustained_seconds = int(Fraction(indices["caidi"]) * 60 * counts.sustained)
     for row in behind:
@@ -58,7 +53,8 @@ def indices_up_to(
             if state.period.day_of(since) not in marked:
                 count(counts, -customers, until - since)
                 count(counts, customers, min(until, end) - since)
-    found = indices_of(counts, served(state, end), end - state.period.first)
+    served = sum(state.served(node, first, end) for node in state.sections())
+    found = indices_of(counts, served, end - first)
     return {name: quotient_text(found[name]).split() for name in NAMES}
 
 
