@@ -817,24 +817,23 @@ class Pages(Case):
                 self.assertEqual(self.one.probe("tooWide"), [], route)
 
     def test_now_at_another_second(self) -> None:
-        screen = self.screen()
-        self.one.open(f"{screen.url}/")
-        self.one.fill("Go to time", "2025-03-27 14:50:00")
-        told = self.one.says("main", "14:22:10")
+        page = self.opened("/", self.screen().url)
+        page.fill("Go to time", "2025-03-27 14:50:00")
+        told = page.says("main", "14:22:10")
         for words in ("CHURCH-ROW", "CB-1", "2 TREE", "OUT-0327-1", "27 min 50 s"):
             self.assertIn(words, told)
-        self.assertEqual(len(self.one.all(".diagram .node.out")), 4)
-        self.one.fill("Go to time", "2025-03-27 15:00:00")
-        self.one.wait(lambda: len(self.one.all(".diagram .node.by_tie")) == 3, "the sections on the tie")
-        link = self.one.script("return document.querySelector('.diagram a[aria-label^=TIE-1]').href.baseVal || ''")
+        self.assertEqual(len(page.all(".diagram .node.out")), 4)
+        page.fill("Go to time", "2025-03-27 15:00:00")
+        page.wait(lambda: len(page.all(".diagram .node.by_tie")) == 3, "the sections on the tie")
+        link = page.script("return document.querySelector('.diagram a[aria-label^=TIE-1]').href.baseVal || ''")
         self.assertIn("device=TIE-1", link)
-        slider = self.one.find("[type=range]")
-        self.one.script("arguments[0].value = 1743085200; arguments[0].dispatchEvent(new Event('input'));", slider)
+        slider = page.find("[type=range]")
+        page.script("arguments[0].value = 1743085200; arguments[0].dispatchEvent(new Event('input'));", slider)
         shown = "2025-03-27 15:20:00 +01:00"
-        self.one.wait(lambda: self.one.value("Go to time") == shown, "the slider's moment")
+        page.wait(lambda: page.value("Go to time") == shown, "the slider's moment")
         slider.send_keys(Keys.PAGE_DOWN)
         said = "2025-03-26 15:20:00 +01:00"  # the day before
-        self.one.wait(lambda: slider.get_attribute("aria-valuetext") == said, "what a reader of the screen hears")
+        page.wait(lambda: slider.get_attribute("aria-valuetext") == said, "what a reader of the screen hears")
 
     def test_a_tie_joins_and_a_day_is_marked(self) -> None:
         screen = self.screen()
@@ -858,33 +857,27 @@ class Pages(Case):
         page.says(".imported", "Added 3, known before 0")
 
     def test_a_login_that_may_only_look(self) -> None:
-        screen = self.screen("--read-only")
-        for route in (LATE, "/sheet?entry=10", "/network", "/year", "/"):
-            self.one.open(screen.url + route)
-            self.assertFalse([each for each in self.one.all("button.send, button.main") if each.is_enabled()], route)
-        self.one.open(screen.url + LATE)
-        self.one.says("main", "This screen is for looking")
-        screen.log_in("ANNA")
-        self.assertEqual(screen.post({**LIGHTHOUSE, "ref": "SCR-ANNA-1"})[0], 403)
         self.one.driver.delete_all_cookies()
-        self.one.open(f"{screen.url}/", None)
-        self.assertNotIn("name", self.one.text("header").lower())  # of no use here
-        copy = self.screen("--no-desk", login="ANNA")
-        self.assertEqual(copy.post({**LIGHTHOUSE, "ref": "SCR-ANNA-1"})[0], 403)
-        self.assertEqual(json.loads(copy.call("/api/entries/35")[1]["history"][0]["text"])["no"], 102)
-        self.one.open(f"{copy.url}/year", None)
+        for option, words in (("--read-only", "This screen is for looking"), ("--no-desk", "This is a copy of a book")):
+            screen = self.screen(option, login="ANNA")
+            self.assertEqual(screen.post({**LIGHTHOUSE, "ref": "SCR-ANNA-1"})[0], 403)
+            for route in ("/sheet?entry=10", "/network", "/year", "/", LATE):
+                self.one.open(screen.url + route, None)
+                buttons = self.one.all("button.send, button.main")
+                self.assertFalse([each for each in buttons if each.is_enabled()], route)
+                self.assertNotIn("name", self.one.text("header").lower())  # of no use here
+            self.one.says("main", words)
+        self.assertEqual(json.loads(screen.call("/api/entries/35")[1]["history"][0]["text"])["no"], 102)
+        self.one.open(f"{screen.url}/year", None)
         self.one.says("main", "194.126")
         self.one.says(".state", "A copy of a book")
         self.assertIn("from the book", self.one.text("main"))
         self.assertNotIn("server", self.one.text("main"))
-        self.assertNotIn("name", self.one.text("header").lower())
         self.shares_are_shares(self.one)
         cells = "return [...document.querySelectorAll('.index')].map((each) => each.innerText.split(' '))"
         shown = self.one.script(cells)
         self.assertIn(["194.126", "4073935/20986"], shown)  # decimals first
         self.assertIn(["99.034", "%", "1246999/1259160"], shown)
-        self.one.open(copy.url + LATE, None)
-        self.one.says("main", "This is a copy of a book")
 
     def shares_are_shares(self, page: browser.Browser) -> None:
         """Bars and figures of causes are parts of the whole, and add up to it."""
