@@ -83,7 +83,7 @@ def supply_in(answer: Answer) -> Supply:
 def plan_in(answer: Answer) -> Plan:
     """Raises the refusal that the command would have."""
     if answer.status == 404:
-        raise Away("the desk's program is older than this screen: it doesn't plan commands")
+        raise Away("the program of the book's server is older than this screen: it doesn't plan changes")
     told = answer.json()
     if answer.status != 200:
         raise NotPlanned(told)

@@ -16,6 +16,10 @@ IMPORT_SECONDS = 300.0
 SEND_SECONDS = 25.0  # for all tries of a command
 BETWEEN_TRIES = 0.25
 SHOWN_ERROR = 300
+ALONE: dict[str, Any] = {
+    "headers": {"Connection": "close"},
+    "allow_redirects": False,
+}  # a request of its own connection
 
 
 class Away(Exception):
@@ -38,7 +42,7 @@ class Desk:
 
     def __init__(self, url: str | None):
         self.url = url
-        self.why_away: str | None = None if url else "no desk has been started yet"
+        self.why_away: str | None = None if url else "the book's server hasn't been started yet"
         self.is_busy = False
         self.order = asyncio.Lock()
 
@@ -46,15 +50,17 @@ class Desk:
         """One request, once. A 503 counts as no answer: the desk had a fault and doesn't know its book."""
         async with self.order:
             if self.url is None:
-                raise Away(self.why_away or "there is no desk")
+                raise Away(self.why_away or "the book has no server")
+            limit = aiohttp.ClientTimeout(total=seconds)
             try:
-                answer = await self._once(method, self.url + route, body, seconds)
+                async with aiohttp.request(method, self.url + route, data=body, timeout=limit, **ALONE) as reply:
+                    answer = Answer(reply.status, await reply.read())
             except (aiohttp.ClientError, asyncio.TimeoutError, OSError) as error:
                 late = isinstance(error, asyncio.TimeoutError) and f"no answer within {seconds:.0f} seconds"
                 self.why_away = late or f"{type(error).__name__}: {error}"[:SHOWN_ERROR]
                 raise Away(self.why_away) from None
             if answer.status == 503:
-                self.why_away = "the desk had a fault (503)"
+                self.why_away = "the book's server had a fault (503)"
                 raise Away(self.why_away)
             self.why_away, self.is_busy = None, False
             return answer
@@ -63,31 +69,25 @@ class Desk:
         """What changes nothing: it waits a short time for its turn and the answer. A desk that is away, or let others wait in
         vain, isn't asked until it has answered something."""
         if self.url is None or self.why_away or self.is_busy:
-            raise Away(self.why_away or "the desk is busy")
+            raise Away(self.why_away or "the book's server is busy")
         try:
             async with asyncio.timeout(LOOK_SECONDS):
                 return await self.ask("POST" if body else "GET", route, body)
         except TimeoutError:
             self.is_busy = True
-            raise Away("the desk is busy") from None
+            raise Away("the book's server is busy") from None
 
-    async def _once(self, method: str, url: str, body: bytes | None, seconds: float) -> Answer:
-        limit = aiohttp.ClientTimeout(total=seconds)
-        connector = aiohttp.TCPConnector(force_close=True, limit=1)
-        async with aiohttp.ClientSession(connector=connector, timeout=limit, auto_decompress=False) as session:
-            headers = {"Connection": "close"}
-            async with session.request(method, url, data=body, headers=headers, allow_redirects=False) as reply:
-                return Answer(reply.status, await reply.read())
-
-    async def send(self, command: dict[str, str], seconds: float = SEND_SECONDS) -> tuple[Answer, int]:
+    async def send(self, command: dict[str, str]) -> tuple[Answer, int]:
         """Sends a command until it is answered, always under its reference: the answer, and how many tries it took."""
-        body = json.dumps(command).encode()
-        end = asyncio.get_running_loop().time() + seconds
-        tries = 0
+        return await self.insist("POST", "/commands", SEND_SECONDS, json.dumps(command).encode())
+
+    async def insist(self, method: str, route: str, seconds: float, body: bytes | None = None) -> tuple[Answer, int]:
+        """Asks until there is an answer: that, and how many tries it took."""
+        end, tries = asyncio.get_running_loop().time() + seconds, 0
         while True:
             tries += 1
             try:
-                return await self.ask("POST", "/commands", body), tries
+                return await self.ask(method, route, body), tries
             except Away:
                 if asyncio.get_running_loop().time() + BETWEEN_TRIES > end:
                     raise
@@ -152,7 +152,7 @@ class OwnDesk:
             last = said
         status = await self.process.wait()
         self.is_final = status in self.FINAL
-        return f"the desk ended with status {status}: {last.decode(errors='replace').strip()}"
+        return f"the book's server ended with status {status}: {last.decode(errors='replace').strip()}"
 
     def is_here(self) -> None:
         """The desk takes requests from now on."""

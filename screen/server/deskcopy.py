@@ -11,8 +11,8 @@ import secrets
 import shutil
 import tempfile
 from collections import Counter, deque
-from collections.abc import AsyncIterator, Awaitable, Callable, Iterator, Sequence
-from contextlib import asynccontextmanager, contextmanager
+from collections.abc import AsyncIterator, Awaitable, Callable, Sequence
+from contextlib import asynccontextmanager
 from dataclasses import dataclass, replace
 from itertools import chain
 from pathlib import Path
@@ -116,32 +116,25 @@ class DeskCopy(OwnDesk):
 
     @asynccontextmanager
     async def turn(self) -> AsyncIterator[None]:
-        """The copy for one question, as of the last command that is known."""
-        await within(READY_SECONDS, self.order.acquire(), lambda: "the copy of the desk is busy")
+        """The copy for one question, as of the last command that is known. Where that breaks off nothing is known of the copy
+        any more: there will be another one."""
+        await within(READY_SECONDS, self.order.acquire(), lambda: "the copy of the book is busy")
         try:
-            await within(READY_SECONDS, self.ready.wait(), self.why)
-            with self.whole_or_gone():
-                await self.follow()
-                yield
-        finally:
-            self.order.release()
-
-    def why(self) -> str:
-        """Why there is no copy."""
-        return self.desk.why_away or "the copy of the desk is being made"
-
-    @contextmanager
-    def whole_or_gone(self) -> Iterator[None]:
-        """Some work with the copy. Where it breaks off nothing is known of the copy any more: there will be another one."""
-        try:
+            await within(
+                READY_SECONDS, self.ready.wait(), lambda: self.desk.why_away or "the copy of the book is being made"
+            )
+            await self.follow()
             yield
+            if self.made - len(self.entries) > MOST_MADE:
+                self.throw_away()
         except (Refused, NotPlanned):
             raise
         except BaseException:
-            self.throw_away()
+            if self.ready.is_set():
+                self.throw_away()
             raise
-        if self.made - len(self.entries) > MOST_MADE:
-            self.throw_away()
+        finally:
+            self.order.release()
 
     async def follow(self) -> None:
         while self.later:
@@ -158,7 +151,7 @@ class DeskCopy(OwnDesk):
         except NotPlanned:
             is_same = False
         if command.number != self.known + 1 or not is_same:
-            raise Away(f"the copy of the desk could not follow command {command.number}")
+            raise Away(f"the copy of the book could not follow change no. {command.number}")
         self.known = command.number
         if command.kind == "switch":
             self.entries.append(self.made)
@@ -180,7 +173,7 @@ class DeskCopy(OwnDesk):
     async def send(self, kind: str, fields: Sequence[str], ref: str) -> Moves:
         answer = await self.desk.ask("POST", "/commands", command_body(kind, fields, ref))
         if answer.status != 200:
-            raise Away(f"the copy of the desk refused {kind}: {answer.body.decode(errors='replace')}")
+            raise Away(f"the copy of the book refused {kind}: {answer.body.decode(errors='replace')}")
         self.made += kind == "switch"
         return moves_in(answer.json())
 

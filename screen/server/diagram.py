@@ -1,6 +1,7 @@
 """The one-line diagram: where each node stands, by layers from GRID over devices that are normally closed; what has supply."""
 
-from collections.abc import Sequence
+from collections import defaultdict
+from collections.abc import Iterable, Mapping, Sequence
 from dataclasses import dataclass
 
 from .answers import Supply
@@ -12,55 +13,48 @@ GRID, BUS = 0, 1  # a node's number; a kind of nodes
 
 @dataclass(frozen=True)
 class Layout:
-    """The layer and the row of each node, the devices of the tree by the node below them, and whether a node has a place
-    in the tree (the others stand apart, below it)."""
+    """The layer and the row of each node; by node, from GRID on, the device of the tree above it and the node over that."""
 
-    layer: list[int]
-    row: list[float]
-    above: dict[int, int]
+    layer: dict[int, int]
+    row: dict[int, float]
+    above: dict[int, tuple[int, int]]
 
 
-def layout_of(nodes: int, devices: Sequence[Device], order: Sequence[tuple[int, ...]] = ()) -> Layout:
-    """A tidy tree: each node left of those that hang on it, in the middle of their rows; leaves one row each. A part of the
-    tree comes as early as the node in it that is first by an order, where there is one."""
-    beside: list[list[tuple[int, int]]] = [[] for _ in range(nodes)]
+def ways_of(devices: Iterable[Device]) -> dict[int, list[tuple[int, int]]]:
+    """To which nodes some devices lead from each node, with their numbers."""
+    found: dict[int, list[tuple[int, int]]] = defaultdict(list)
     for device in devices:
-        if device.is_closed:
-            beside[device.a].append((device.b, device.number))
-            beside[device.b].append((device.a, device.number))
-    layer, row = [-1] * nodes, [0.0] * nodes
-    above: dict[int, int] = {}
-    below: list[list[int]] = [[] for _ in range(nodes)]
-    layer[GRID], found = 0, [GRID]
+        found[device.a].append((device.b, device.number))
+        found[device.b].append((device.a, device.number))
+    return found
+
+
+def layout_of(devices: Sequence[Device], order: Sequence[tuple[int, ...]]) -> Layout:
+    """A tidy tree: each node left of those that hang on it, in the middle of their rows; leaves one row each. A part of the
+    tree comes as early as the node in it that is first by an order of all nodes. Those to which normally no way leads stand
+    below it."""
+    ways, found = ways_of(each for each in devices if each.is_closed), [GRID]
+    layer, above, below = {GRID: 0}, dict[int, tuple[int, int]](), defaultdict[int, list[int]](list)
     for node in found:
-        for other, device_number in beside[node]:
-            if layer[other] < 0:
-                layer[other] = layer[node] + 1
-                above[other] = device_number
+        for other, number in ways[node]:
+            if other not in layer:
+                layer[other], above[other] = layer[node] + 1, (number, node)
                 below[node].append(other)
                 found.append(other)
-    if order:
-        sort_parts(below, found, order)
-    rows = place_rows(below, row)
-    for node in range(nodes):
-        if layer[node] < 0:  # normally no way leads here
-            layer[node], row[node] = 1, rows
-            rows += 1
-    return Layout(layer, row, above)
-
-
-def sort_parts(below: list[list[int]], found: Sequence[int], order: Sequence[tuple[int, ...]]) -> None:
-    """Brings what hangs on each node into the order of the first node of each part."""
     first = list(order)
     for node in reversed(found):  # what hangs on a node was found after it
         below[node].sort(key=first.__getitem__)
-        first[node] = min(first[node], first[below[node][0]]) if below[node] else first[node]
+        first[node] = min([first[node], *(first[each] for each in below[node][:1])])
+    row, rows = place_rows(below)
+    apart = [node for node in range(len(order)) if node not in layer]
+    row |= {node: rows + number for number, node in enumerate(apart)}
+    return Layout(layer | dict.fromkeys(apart, 1), row, above)
 
 
-def place_rows(below: list[list[int]], row: list[float]) -> float:
-    """Gives each node of the tree its row: how many rows there are."""
-    rows = 0.0
-    waiting: list[tuple[int, bool]] = [(GRID, False)]
+def place_rows(below: Mapping[int, list[int]]) -> tuple[dict[int, float], float]:
+    """The row of each node of the tree, and how many rows there are."""
+    row, rows = dict[int, float](), 0.0
+    waiting = [(GRID, False)]
     while waiting:
         node, is_seen = waiting.pop()
         if not below[node]:
@@ -69,22 +63,16 @@ def place_rows(below: list[list[int]], row: list[float]) -> float:
         elif is_seen:
             row[node] = (row[below[node][0]] + row[below[node][-1]]) / 2
         else:
-            waiting.append((node, True))
-            waiting.extend((other, False) for other in reversed(below[node]))
-    return rows
+            waiting += [(node, True), *((other, False) for other in reversed(below[node]))]
+    return row, rows
 
 
-def normal_ways(nodes: int, devices: Sequence[Device], layout: Layout, closed: Sequence[bool]) -> list[bool]:
+def normal_ways(layout: Layout, closed: Sequence[bool]) -> list[bool]:
     """Whether the devices between each node and GRID, by the tree of normal positions, are all closed."""
-    order = sorted(range(nodes), key=lambda node: layout.layer[node])
-    holds = [node == GRID for node in range(nodes)]
-    for node in order:
-        number = layout.above.get(node)
-        if number is not None:
-            device = devices[number]
-            over = device.a if device.b == node else device.b
-            holds[node] = holds[over] and closed[number]
-    return holds
+    holds = {GRID: True}
+    for node, (number, over) in layout.above.items():
+        holds[node] = holds[over] and closed[number]
+    return [holds.get(node, False) for node in range(len(layout.layer))]
 
 
 def closed_devices(state: State, supply: Supply) -> list[bool]:
@@ -95,16 +83,13 @@ def closed_devices(state: State, supply: Supply) -> list[bool]:
 def supplied_nodes(state: State, supply: Supply) -> list[bool]:
     """Whether each node has supply: of sections the desk says so. It names no buses: one has supply where closed devices lead
     to it from GRID or a section that has."""
-    out = {row.section for row in supply.outages}
+    out, are_buses = {row.section for row in supply.outages}, [kind == BUS for _, kind, _ in state.nodes]
+    closed = (each for each, is_closed in zip(state.devices, closed_devices(state, supply)) if is_closed)
+    ways = ways_of(each for each in closed if are_buses[each.a] or are_buses[each.b])
     found = [node for node, (name, kind, _) in enumerate(state.nodes) if kind != BUS and name not in out]
     seen = set(found)
-    beside: dict[int, list[int]] = {}
-    for device, is_closed in zip(state.devices, closed_devices(state, supply)):
-        for node, other in ((device.a, device.b), (device.b, device.a)) if is_closed else ():
-            if state.nodes[other][1] == BUS:
-                beside.setdefault(node, []).append(other)
     for node in found:
-        buses = [other for other in beside.get(node, ()) if other not in seen]
-        seen.update(buses)
+        buses = {other for other, _ in ways.get(node, ()) if are_buses[other]} - seen
+        seen |= buses
         found += buses
-    return [node in seen for node in range(len(state.nodes))]
+    return [node in seen for node in range(len(are_buses))]

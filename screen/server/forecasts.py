@@ -5,23 +5,26 @@ from collections.abc import Iterable, Mapping, Sequence
 
 from .answers import Interval, NotPlanned, Plan, Supply
 from .commands import FIELDS
+from .diagram import closed_devices, layout_of, supplied_nodes
 from .office import Office
 from .reader import Moves
-from .reasons import still_cut_off
 from .refusals import words_of
 from .state import LATE_SECONDS, Refused, State
 from .to_now import is_live, marks_view
 from .views import Json, command_words, moment
 
 FUTURE_SECONDS = 60  # clocks of browsers and servers differ
-NO_COPY = "How it moves the SAIDI without major event days isn't known now: there is no copy of the desk to try it on."
+MOST_NAMED = 3  # devices above one that is closed
+NO_COPY = "How it moves the SAIDI without major event days isn't known now: there is no copy of the book to try it on."
+Seconds = list[tuple[int, int]]  # from one up to another
+Parts = Mapping[str, tuple[Seconds, Seconds]]  # by section: what is lost, and what is got back
 Changes = Mapping[str, tuple[Sequence[Interval], Sequence[Interval]]]  # by section: its outages before and after
 
 
 async def forecast(office: Office, kind: str, fields: Sequence[str]) -> Json:
     """What a command would do as the book stands."""
     if kind not in FIELDS:
-        raise Refused(f"there is no command {kind}")
+        raise Refused(f"there is no change {kind}")
     try:
         planned = await office.plan(kind, fields)
     except NotPlanned as refused:
@@ -58,16 +61,18 @@ def changes_of(plans: Iterable[Plan]) -> Changes:
 
 
 def forecast_view(state: State, kind: str, fields: Sequence[str], moves: Moves, changes: Changes) -> Json:
-    second = second_of(kind, fields)
+    second, parts = second_of(kind, fields), changed_parts(state, changes)
     ahead = 0 if second is None else second - state.now()
+    total = sum(amount for dim, _, amount in moves if dim == "cause")
     return {
         "number": state.number,
-        "sections": sections_of(state, changes),
+        "is_change": kind in ("correct", "withdraw"),
+        "sections": sections_of(state, parts),
         "moved": [list(move) for move in moves],
-        "total": sum(amount for dim, _, amount in moves if dim == "cause"),
+        "total": total,
+        "up_to_now": up_to_now(state, total, parts),
         "hints": [],
         "reason": None,
-        "is_live": is_live(state),
         "unmarked": None,
         "future": ahead if ahead > FUTURE_SECONDS else 0,
         "late": -ahead if kind == "switch" and -ahead > LATE_SECONDS else 0,
@@ -75,14 +80,27 @@ def forecast_view(state: State, kind: str, fields: Sequence[str], moves: Moves, 
     }
 
 
-def sections_of(state: State, changes: Changes) -> list[Json]:
-    """The sections whose supply changes: seconds lost and got back, and customers when that begins. One that would join the
-    network isn't there yet."""
+def changed_parts(state: State, changes: Changes) -> Parts:
+    """The sections whose supply changes, each with the seconds that are lost and those that are got back. One that would join
+    the network isn't there yet."""
+    known = ((name, *changes[name]) for name in changes if name in state.node_numbers)
+    found = {name: (uncovered(after, before), uncovered(before, after)) for name, before, after in known}
+    return {name: parts for name, parts in found.items() if any(parts)}
+
+
+def up_to_now(state: State, total: int, parts: Parts) -> int | None:
+    """What has passed of a total that counts to the end of a period that goes on; None where it doesn't."""
+    now, sides = state.now(), [(name, *side) for name, pair in parts.items() for side in zip((1, -1), pair)]
+    spans = [(state.node_numbers[name], sign, *span) for name, sign, seconds in sides for span in seconds]
+    if not is_live(state) or all(until < state.period.end for *_, until in spans):
+        return None
+    return total - sum(sign * state.served(node, max(since, now), until) for node, sign, since, until in spans)
+
+
+def sections_of(state: State, parts: Parts) -> list[Json]:
+    """The sections whose supply changes: how many seconds, and the customers when that begins."""
     rows: list[Json] = []
-    for name, (before, after) in changes.items():
-        lost, back = uncovered(after, before), uncovered(before, after)
-        if name not in state.node_numbers or not lost + back:
-            continue
+    for name, (lost, back) in parts.items():
         since, until = min(part[0] for part in lost + back), max(part[1] for part in lost + back)
         shown: Json = {"section": name, "feeder": state.feeder_of(name)}
         shown["customers"] = state.customers_at(state.node_numbers[name], since)
@@ -91,11 +109,11 @@ def sections_of(state: State, changes: Changes) -> list[Json]:
     return sorted(rows, key=lambda row: (row["feeder"], row["section"]))
 
 
-def length(parts: Iterable[tuple[int, int]]) -> int:
+def length(parts: Seconds) -> int:
     return sum(until - since for since, until in parts)
 
 
-def uncovered(outages: Sequence[Interval], others: Sequence[Interval]) -> list[tuple[int, int]]:
+def uncovered(outages: Sequence[Interval], others: Sequence[Interval]) -> Seconds:
     """The seconds of some outages that lie in none of others; both rising."""
     parts = []
     for since, until, _ in outages:
@@ -125,3 +143,43 @@ def notes_of(state: State, kind: str, fields: Sequence[str], supply: Supply | No
     entry = len(state.entries) + 1 if is_switch else int(fields[0])
     reason = still_cut_off(state, supply, device, entry) if closes and not changes_supply else None
     return {"hints": hints, "reason": reason}
+
+
+def still_cut_off(state: State, supply: Supply, number: int, entry: int) -> str | None:
+    """What keeps a device without supply at the second at which an entry closes it; nothing where it gets supply then. The
+    supply is that before the entry."""
+    device, second = state.devices[number], supply.second
+    same = [each for each in state.entries if each.device == number and each.is_kept and each.second == second]
+    if not supply.alive[device.name] or any(each.number > entry for each in same):
+        return None
+    closed, supplied = closed_devices(state, supply), supplied_nodes(state, supply)
+    if supplied[device.a] or supplied[device.b]:
+        return None
+    closed[number] = True
+    above = open_above(state, number, closed)
+    words = [open_words(state, supply, each) for each in above[:MOST_NAMED]]
+    more = f" and {len(above) - MOST_NAMED} more" if len(above) > MOST_NAMED else ""
+    why = f"above it {', '.join(words)}{more}" if words else "no way leads from GRID to it"
+    return f"Still cut off: {why}."
+
+
+def open_above(state: State, number: int, closed: list[bool]) -> list[int]:
+    """The open devices between a device and GRID, by the ways of normal positions; the nearest one first."""
+    layout = layout_of(state.devices, [(node,) for node in range(len(state.nodes))])
+    node = min((state.devices[number].a, state.devices[number].b), key=lambda each: layout.layer[each])
+    found = []
+    while node in layout.above:
+        over, node = layout.above[node]
+        found += [] if closed[over] else [over]
+    return found
+
+
+def open_words(state: State, supply: Supply, number: int) -> str:
+    """Since when a device is open."""
+    device = state.devices[number]
+    entry = state.last_entry(device, supply.second)
+    if not supply.alive[device.name]:
+        return f"{device.name} isn't in the network"
+    if entry is None:
+        return f"{device.name} is normally open"
+    return f"{device.name} is open since {state.period.zone.short_text(entry.second)}"

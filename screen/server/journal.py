@@ -50,23 +50,23 @@ class Journal:
 
     def _remember(self, line: str) -> None:
         """A line that was cut off by a loss of power is left out of what pages show; the file keeps it."""
-        with suppress(ValueError, TypeError, LookupError):
-            row = json.loads(line)
-            if isinstance(row, dict):
-                self._keep(row)
+        with suppress(ValueError, TypeError, LookupError, AttributeError):
+            self._keep(json.loads(line))
 
     def _keep(self, row: dict[str, Any]) -> None:
-        at, login, reference = second_of(row), str(row.get("login", "")), str(row.get("reference", ""))
-        sent, commands = row.get("sent"), numbers_of(row.get("commands"))
-        if isinstance(sent, dict):
-            told = {name: str(text) for name, text in sent.items()}
-            kind, fields, remark = told.get("kind", ""), fields_of(told), str(row.get("remark", ""))
-            sending = Sending(at, login, reference, kind, fields, remark=remark)
+        login, reference, sent = row["login"], row["reference"], row.get("sent")
+        at, commands = int(datetime.fromisoformat(row["time"]).timestamp()), None
+        if row.get("commands"):
+            first, last = row["commands"]
+            commands = int(first), int(last)
+        if sent is not None:
+            sending = Sending(at, login, reference, sent["kind"], fields_of(sent), remark=row.get("remark", ""))
             self.sendings.append(sending)
             self.open[login, reference] = sending
             if reference:
                 self.sent.setdefault(reference, at)
-            self._keep_name(login, row.get("name"), name_in(reference))
+            if "name" in row:  # of a proxy's login
+                self.names.keep(login, row["name"])
         elif login:
             opened = self.open.pop((login, reference), None)
             if opened is not None:
@@ -74,14 +74,6 @@ class Journal:
                 take_answer(opened, row.get("answer"))
         elif commands is not None:
             self.sendings.append(Sending(at, "", "", ELSEWHERE, outcome="saved", commands=commands))
-
-    def _keep_name(self, login: str, told: object, used: str | None) -> None:
-        """The name of a proxy's login. A line of an older screen tells none: there it is the one in the reference, unless
-        the login is a name that somebody gave by hand."""
-        if isinstance(told, str):
-            self.names.keep(login, told)
-        elif used is not None and used != login:
-            self.names.keep(login, used)
 
     def write(self, login: str, reference: str, **said: Any) -> None:
         row = {"time": datetime.now(timezone.utc).isoformat(timespec="milliseconds"), "login": login}
@@ -126,18 +118,3 @@ def refusal_of(answer: dict[str, Any]) -> str:
     """The number and the name of a refusal, as the desk writes them."""
     parts = (answer.get(name) for name in ("refused", "name", "detail"))
     return " ".join(str(part) for part in parts if part is not None)
-
-
-def numbers_of(told: object) -> tuple[int, int] | None:
-    """The first and the last number of some commands."""
-    if isinstance(told, list) and len(told) == 2 and all(isinstance(number, int) for number in told):
-        return told[0], told[1]
-    return None
-
-
-def second_of(row: dict[str, Any]) -> int:
-    """The second at which a row was written; 0 where it doesn't say so."""
-    try:
-        return int(datetime.fromisoformat(str(row.get("time"))).timestamp())
-    except ValueError:
-        return 0

@@ -6,10 +6,8 @@ import logging
 import resource
 import signal
 import sys
-from collections.abc import AsyncIterator, Coroutine
-from contextlib import AsyncExitStack, asynccontextmanager
+from contextlib import AsyncExitStack
 from pathlib import Path
-from typing import Any
 
 from aiohttp import web
 
@@ -23,7 +21,6 @@ from .state import State
 from .web import Settings, application
 
 FIRST_ANSWER_SECONDS = 600
-BETWEEN_TRIES = 0.5
 OPEN_FILES = 8_192
 LONGEST_LIMIT = 3_600
 
@@ -60,26 +57,13 @@ def read_words() -> argparse.Namespace:
     return given
 
 
-async def wait_for(desk: Desk) -> None:
-    """Waits until a desk answers: a large book takes its time to load."""
-    end = asyncio.get_running_loop().time() + FIRST_ANSWER_SECONDS
-    while True:
-        try:
-            await desk.ask("GET", "/commands/0")
-            return
-        except Away as away:
-            if asyncio.get_running_loop().time() > end:
-                raise BookError(f"the desk gives no answer: {away}") from None
-            await asyncio.sleep(BETWEEN_TRIES)
-
-
 async def start_desk(given: argparse.Namespace, at_end: AsyncExitStack) -> Desk | None:
     """The desk that is asked for, at work."""
     if given.no_desk:
         return None
     if given.desk:
         desk = Desk(given.desk.rstrip("/"))
-        await wait_for(desk)
+        await desk.insist("GET", "/commands/0", FIRST_ANSWER_SECONDS)  # a large book takes its time to load
         return desk
     own = OwnDesk(Desk(None), given.program, given.book.resolve())
     at_end.push_async_callback(own.end)
@@ -97,18 +81,6 @@ async def known_state(copy: DeskCopy, book: Path) -> State:
     return state
 
 
-@asynccontextmanager
-async def meanwhile(*works: Coroutine[Any, Any, object]) -> AsyncIterator[None]:
-    """Does some works beside what is done here; then they are broken off."""
-    tasks = [asyncio.create_task(each) for each in works]
-    try:
-        yield
-    finally:
-        for task in tasks:
-            task.cancel()
-        await asyncio.gather(*tasks, return_exceptions=True)
-
-
 async def serve(given: argparse.Namespace) -> None:
     ended, book = asyncio.Event(), given.book.resolve()
     for each in (signal.SIGTERM, signal.SIGINT):
@@ -124,8 +96,9 @@ async def serve(given: argparse.Namespace) -> None:
             if (await desk.ask("GET", f"/supply/{state.now()}")).status == 404:
                 raise BookError("the desk's program is older than this screen")
             office.note_start()
-        async with meanwhile(office.past(), *([office.watch()] if desk else [])):
-            await listen(given, office, ended)
+        for work in (office.past(), *([office.watch()] if desk else [])):
+            at_end.callback(asyncio.create_task(work).cancel)
+        await listen(given, office, ended)
 
 
 async def listen(given: argparse.Namespace, office: Office, ended: asyncio.Event) -> None:
@@ -149,9 +122,7 @@ async def listen(given: argparse.Namespace, office: Office, ended: asyncio.Event
         await ended.wait()
     finally:
         server.close()
-        await runner.shutdown()
         await web_server.shutdown(1.0)
-        await runner.cleanup()
 
 
 def main() -> int:

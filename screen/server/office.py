@@ -8,7 +8,7 @@ from contextlib import contextmanager, suppress
 from pathlib import Path
 from typing import Any
 
-from . import refusals, undo, views
+from . import refusals, views
 from .answers import Plan, Supply, command_body, moves_in, plan_in, supply_in
 from .apart import Apart, Kept
 from .commands import FIELDS, fields_of
@@ -23,7 +23,7 @@ KEPT_UNDOS = 2_000
 KEPT_NEWS = 50
 WAITING_EVENTS = 64
 AWAY_WORDS = (
-    "The desk gave no answer, so it isn't known whether this is saved. Send it again: it goes under the same reference, "
+    "The book's server gave no answer, so it isn't known whether this is saved. Send it again: it goes under the same reference, "
     "and acts once."
 )
 Told = tuple[int, dict[str, Any]]  # a status, and what the page is told
@@ -40,7 +40,7 @@ class Hub:
 
     def count(self, login: str) -> int:
         """The open pages of a login."""
-        return sum(each == login for each in self.pages.values())
+        return list(self.pages.values()).count(login)
 
     def tell(self, event: dict[str, Any]) -> None:
         for page in self.pages:
@@ -130,7 +130,7 @@ class Office:
 
     def take(self, command: Command, moves: Moves) -> None:
         """Takes the next command."""
-        self.undos[command.number] = undo.undo_of(self.state, command)
+        self.undos[command.number] = self.state.undo_of(command)
         self.state.take(command)
         self.copy.note(command, moves)
         self.undos.pop(command.number - KEPT_UNDOS, None)
@@ -175,8 +175,8 @@ class Office:
             answer, tries = await self.desk.send(command)
         except Away as away:
             return self.unanswered(login, command["ref"], away)
-        self.journal.write(login, command["ref"], status=answer.status, answer=body_of(answer))
         reply = answer.json()
+        self.journal.write(login, command["ref"], status=answer.status, answer=reply)
         if answer.status != 200:
             return answer.status, await self.refused(command, reply, answer)
         number, moves = reply["no"], moves_in(reply)
@@ -216,15 +216,16 @@ class Office:
         finally:
             self.is_importing = False
         commands = [known + 1, self.state.number] if self.state.number > known else None
-        self.journal.write(login, "", status=answer.status, answer=body_of(answer), commands=commands)
+        self.journal.write(login, "", status=answer.status, answer=answer.json(), commands=commands)
         return answer.status, {"reply": answer.json(), "text": answer.body.decode()}
 
     # What the desk says; while it gives no answer, its copy.
 
     async def supply(self, second: int) -> Supply:
-        """The supply at a second of the period."""
+        """The supply at a second of the period. What it speaks of may have come another way a moment ago."""
         found = await self.supply_now(second)
-        if self.has_desk and not self.knows(found):
+        last, names = max((row.entry for row in found.outages), default=0), self.state.device_numbers.keys()
+        if self.has_desk and (last > len(self.state.entries) or found.closed.keys() != names):
             await self.look()
         return found
 
@@ -233,12 +234,6 @@ class Office:
             return supply_in(await self.desk.look(f"/supply/{second}"))
         except Away:
             return await self.copy.supply(second)
-
-    def knows(self, supply: Supply) -> bool:
-        """Whether the state has all that a supply speaks of: it may have come another way a moment ago."""
-        last = max((row.entry for row in supply.outages), default=0)
-        names = self.state.device_numbers.keys()
-        return last <= len(self.state.entries) and supply.closed.keys() == names
 
     async def plan(self, kind: str, fields: Sequence[str]) -> Plan:
         """What a command would do."""
@@ -276,14 +271,6 @@ class Office:
                 self.past_known = await self.tables.run(past_outages, state.period, *rows)
                 self.past_of = number
             return self.past_known
-
-
-def body_of(answer: Answer) -> Any:
-    """The body of an answer for the log: as JSON where it is that."""
-    try:
-        return answer.json()
-    except ValueError:
-        return answer.body.decode(errors="replace")
 
 
 def is_canonical(command: Command) -> bool:

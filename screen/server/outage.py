@@ -17,7 +17,7 @@ from .state import NotNow, Refused, State
 from .views import Json, entry_view, reference_of
 
 MOST_STEPS = 30
-SHOWN = ("words", "reason", "total", "future", "late", "sections", "hints")  # of the forecast of each step
+SHOWN = ("words", "reason", "total", "future", "late", "sections", "hints", "is_change")  # of the forecast of each step
 SECONDS = {"switch": 3, "correct": 4}  # where a step has its second
 
 

@@ -47,10 +47,10 @@ def words_of(state: State, kind: str, fields: Sequence[str], reply: dict[str, An
     if number == 7:
         return f"Somebody changed this entry: it has revision {detail} by now. Look at what it is, and correct that if need be."
     if number == 11:
-        return f"This reference was used for another command, number {detail}. Nothing was done."
+        return f"This reference was used for another change, no. {detail} of the book. Nothing was done."
     if number == 12:
         return f"The book is full here: it takes {detail} of these."
-    return PLAIN.get(number if isinstance(number, int) else 0, "The desk refused this command.")
+    return PLAIN.get(number if isinstance(number, int) else 0, "The book's server refused this change.")
 
 
 def bad_field(kind: str, fields: Sequence[str], column: object) -> str:
@@ -58,7 +58,7 @@ def bad_field(kind: str, fields: Sequence[str], column: object) -> str:
     names = FIELDS.get(kind, ())
     place = column - FIRST_FIELD if isinstance(column, int) else -1
     if not 0 <= place < len(names):
-        return f"The {'reference' if column == 2 else 'command'} can't be read."
+        return f"The {'reference' if column == 2 else 'change'} can't be read."
     name, text = names[place], fields[place][:SHOWN_LETTERS]
     words = SPELLINGS.get(name, NAME)
     return f"The {name} {text} can't be read, it has to be {words}." if text else f"The {name} is missing."

@@ -75,7 +75,7 @@ def sending_view(state: State, sending: Sending) -> Json:
 
 def words_of(state: State, sending: Sending) -> str:
     if sending.kind == IMPORT:
-        return "a file of commands"
+        return "a file of changes"
     if sending.kind == ELSEWHERE:
         return elsewhere_words(state, *(sending.commands or (0, 0)))
     words = command_words(state, sending.kind, sending.fields)
@@ -87,7 +87,7 @@ def elsewhere_words(state: State, first: int, last: int) -> str:
     """Commands of another program; a single one by what it is, where it is one of the latest."""
     found = next((each for each in state.latest if each.number == first == last), None)
     if found is None:
-        return f"{last - first + 1} commands" if first < last else "a command"
+        return f"{last - first + 1} changes" if first < last else "a change"
     return f"{command_words(state, found.kind, found.fields)} ({found.ref})"
 
 
@@ -106,11 +106,11 @@ def result_of(sending: Sending, entry: int | None) -> str:
         return "no answer: it isn't known whether it is saved"
     if sending.number is None:
         return f"saved: {numbers}" if numbers else "saved already"
-    return f"saved: command {sending.number}" + (f", entry {entry}" if entry else "")
+    return f"saved: {numbers_words(sending.number, sending.number)}" + (f", entry {entry}" if entry else "")
 
 
 def numbers_words(first: int, last: int) -> str:
-    return f"commands {first} to {last}" if first < last else f"command {first}"
+    return f"changes no. {first} to {last}" if first < last else f"change no. {first}"
 
 
 # What a shift hands over.
@@ -119,7 +119,7 @@ def numbers_words(first: int, last: int) -> str:
 async def shift_view(office: Office, wanted: dict[str, str]) -> Json:
     """Open outages, and what changed from a second up to another, by whom."""
     state, part = office.state, wanted.get("name", "").strip().upper()
-    since, until = bounds_of(state, wanted, int(time.time()) - SHIFT_SECONDS)
+    since, until = bounds_of(state, wanted, (int(time.time()) - SHIFT_SECONDS) // 60 * 60)
     supply, past = await office.supply(state.now()), await office.past()
     sendings = list(office.journal.between(since, until, part))
     entered = entered_by(state, sendings)
@@ -176,36 +176,28 @@ def entered_by(state: State, sendings: Iterable[Sending]) -> dict[int, list[Json
 def numbers_of(state: State, sending: Sending) -> list[int]:
     """The commands of a sending that made or changed an entry, latest first."""
     first, last = (sending.number, sending.number) if sending.number is not None else sending.commands or (1, 0)
-    span = range(first, last + 1)
-    shorter = span if len(span) < len(state.changed) else state.changed
-    return sorted((number for number in shorter if number in span and number in state.changed), reverse=True)
+    return [number for number in range(last, first - 1, -1) if number in state.changed]
 
 
 def ended_view(state: State, past: Past, since: int, until: int) -> list[Json]:
-    """The outages that ended from a second up to another, and not at the period's end."""
-    end = min(until, state.now() + 1, state.period.end)
-    found = ((name, row) for name, rows in past.items() for row in rows if since <= row[1] < end)
-    return outages_of(state, (ended(state, name, *row) for name, row in found))
-
-
-def ended(state: State, section: str, since: int, until: int, entry: int) -> Outage:
-    """A past outage, with the customers that it had when it began."""
-    customers = state.customers_at(state.node_numbers[section], since)
-    return Outage(section, since, until, entry, state.entries[entry - 1].cause if entry else 0, customers)
+    """The outages that ended from a second up to another, and not at the period's end, with their customers when they began."""
+    end, found = min(until, state.now() + 1, state.period.end), list[Outage]()
+    for name, rows in past.items():
+        for begun, ended, entry in (row for row in rows if since <= row[1] < end):
+            cause = state.entries[entry - 1].cause if entry else 0
+            customers = state.customers_at(state.node_numbers[name], begun)
+            found.append(Outage(name, begun, ended, entry, cause, customers))
+    return outages_of(state, found)
 
 
 def marks_view(office: Office) -> list[Json]:
     """The marked days, each with who marked it, and when, where the log knows that."""
-    state, told = office.state, dict[str, Sending]()
-    for sending in office.journal.sendings:
-        if sending.kind == "mark" and sending.outcome == "saved":
-            told[sending.fields[0]] = sending
-    rows = []
+    state, rows = office.state, list[Json]()
+    marks = (each for each in office.journal.sendings if each.kind == "mark" and each.outcome == "saved")
+    told = {tuple(each.fields): each for each in marks}
     for number, engineer in sorted(state.marks.items()):
         day = day_name(state, number)
-        row: Json = {"day": day, "engineer": engineer, "at": None, "login": ""}
-        found = told.get(day)
-        if found is not None and found.fields[1] == engineer:
-            row |= {"at": moment(state, found.at), "login": found.login}
-        rows.append(row)
+        found = told.get((day, engineer))
+        at, login = (moment(state, found.at), found.login) if found else (None, "")
+        rows.append({"day": day, "engineer": engineer, "at": at, "login": login})
     return rows

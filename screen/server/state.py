@@ -35,6 +35,10 @@ def end_of(text: str) -> int | None:
     return None if text == "-" else int(text)
 
 
+def end_text(until: int | None) -> str:
+    return "" if until is None else str(until)
+
+
 class State:
     """All that was said to a book, as of its last known command."""
 
@@ -83,6 +87,27 @@ class State:
         found.entries = list(self.entries)
         getattr(found, f"take_{kind}")(*fields)
         return found
+
+    def undo_of(self, command: Command) -> tuple[str, ...] | None:
+        """The kind and the fields of the command that takes one back which isn't taken yet; None where there is none: what joined
+        the network or the customers stays, and a life or a service is ended instead."""
+        kind, fields = command.kind, command.fields
+        if kind == "switch":
+            return "withdraw", str(len(self.entries) + 1), "1"
+        if kind in ("correct", "withdraw"):
+            entry = self.entries[int(fields[0]) - 1]
+            if kind == "withdraw":
+                return "switch", self.devices[entry.device].name, *said(entry)
+            return "correct", str(entry.number), str(entry.revision + 1), *said(entry)
+        if kind in ("mark", "unmark"):
+            return "unmark" if kind == "mark" else "mark", *fields
+        if kind == "life":
+            device = self.devices[self.device_numbers[fields[0]]]
+            return "life", device.name, str(device.since), end_text(device.until)
+        if kind == "revise":
+            _, since, until = self.customers[int(fields[0])]
+            return "revise", str(int(fields[0])), str(since), end_text(until)
+        return None
 
     def take_cause(self, code: str, name: str) -> None:
         self.causes[int(code)] = name

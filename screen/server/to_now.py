@@ -40,26 +40,21 @@ async def outages_behind(office: Office, end: int) -> list[Outage]:
     return list(found.values())
 
 
-def served(state: State, end: int) -> int:
-    """Customer-seconds in service up to a second."""
-    return sum(state.served(node, state.period.first, end) for node in state.sections())
-
-
 def indices_up_to(
     state: State, indices: Json, end: int, behind: Iterable[Outage], marked: Container[int]
 ) -> dict[str, list[str]]:
     """The indices up to a second, as the annual table writes them: from the desk's, with the outages behind that second cut
     there; those that begin on a marked day are left out."""
-    whole, counts = served(state, state.period.end), Counts()
-    if whole:
-        counts.sustained = whole_number(Fraction(indices["saifi"]) * whole / state.period.length)
-        counts.sustained_seconds = whole_number(Fraction(indices["saidi"]) * 60 * whole / state.period.length)
+    counts, first = Counts(indices["sustained"]), state.period.first
+    if counts.sustained:
+        counts.sustained_seconds = int(Fraction(indices["caidi"]) * 60 * counts.sustained)
     for row in behind:
         for since, until, customers in state.within(state.node_numbers[row.section], row.since, row.until):
             if state.period.day_of(since) not in marked:
                 count(counts, -customers, until - since)
                 count(counts, customers, min(until, end) - since)
-    found = indices_of(counts, served(state, end), end - state.period.first)
+    served = sum(state.served(node, first, end) for node in state.sections())
+    found = indices_of(counts, served, end - first)
     return {name: quotient_text(found[name]).split() for name in NAMES}
 
 
@@ -67,13 +62,6 @@ def count(counts: Counts, customers: int, seconds: int) -> None:
     if seconds > LONGEST_MOMENTARY:
         counts.sustained += customers
         counts.sustained_seconds += customers * seconds
-
-
-def whole_number(value: Fraction) -> int:
-    """A count that an index was made of."""
-    if value.denominator != 1:
-        raise Away("the book has changed meanwhile")
-    return value.numerator
 
 
 async def figures(office: Office, end: int) -> Json:
@@ -131,8 +119,7 @@ async def marks_view(office: Office, kind: str, fields: Sequence[str]) -> Json |
         found = [indices["unmarked"] for indices in await office.copy.indices_around(kind, fields)]
     except Away:
         return None
-    day = {state.day_number(fields[0])}
-    marks = set(state.marks), set(state.marks) | day if kind == "mark" else set(state.marks) - day
+    marks = state.marks.keys(), state.marks.keys() ^ {state.day_number(fields[0])}
 
     async def saidi(end: int) -> list[str]:
         behind = await outages_behind(office, end)

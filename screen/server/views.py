@@ -1,6 +1,7 @@
 """What the pages show of a state: plain values for JSON. Each moment comes with its text by the clock of the book's zone."""
 
 import re
+from collections import defaultdict
 from collections.abc import Container, Iterable, Sequence
 from typing import Any
 
@@ -52,52 +53,49 @@ def device_view(state: State, number: int) -> Json:
         "a": device.a,
         "b": device.b,
         "normal": "closed" if device.is_closed else "open",
-        "since": text(state, device.since) if device.since else "",
-        "until": "" if device.until is None else text(state, device.until),
+        **span_view(state, device.since, device.until),
     }
+
+
+def span_view(state: State, since: int, until: int | None) -> Json:
+    """From when and until when, where it isn't always."""
+    return {"since": text(state, since) if since else "", "until": "" if until is None else text(state, until)}
 
 
 def reference_of(state: State, entry: int) -> str:
     return state.histories[entry][0].ref if state.histories.get(entry) else ""
 
 
-def outage_view(state: State, row: Outage) -> Json:
-    """A section without supply: since when, until when as the book stands, and what cut it off."""
+def outages_of(state: State, outages: Iterable[Outage]) -> list[Json]:
+    """Outages of sections, gathered by what cut them off; those of most customers first, as of the sections of each."""
+    found: dict[tuple[int, int], list[Outage]] = defaultdict(list)
+    for row in sorted(outages, key=lambda row: (-row.customers, row.section)):
+        found[row.entry, 0 if row.entry else row.since].append(row)
+    shown = [outage_view(state, rows) for rows in found.values()]
+    return sorted(shown, key=lambda row: (-row["customers"], row["since"]["second"]))
+
+
+def outage_view(state: State, rows: Sequence[Outage]) -> Json:
+    """What one switching cut off: since when, until when as the book stands, and what that was."""
+    number, until = rows[0].entry, max(row.until for row in rows)
     shown: Json = {
-        "section": row.section,
-        "feeder": state.feeder_of(row.section),
-        "customers": row.customers,
-        "since": moment(state, row.since),
-        "until": moment(state, row.until) if row.until < state.period.end else None,
-        "entry": row.entry,
+        "customers": sum(row.customers for row in rows),
+        "sections": [{"section": row.section, "customers": row.customers} for row in rows],
+        "feeders": sorted({state.feeder_of(row.section) for row in rows}),
+        "since": moment(state, min(row.since for row in rows)),
+        "until": moment(state, until) if until < state.period.end else None,
+        "entry": number,
     }
-    if row.entry:
-        entry = state.entries[row.entry - 1]
+    if number:
+        entry = state.entries[number - 1]
         shown |= {
             "device": state.devices[entry.device].name,
-            "cause": row.cause,
-            "cause_name": state.causes.get(row.cause, ""),
+            "cause": rows[0].cause,
+            "cause_name": state.causes.get(rows[0].cause, ""),
             "crew": entry.crew,
-            "reference": reference_of(state, row.entry),
+            "reference": reference_of(state, number),
         }
     return shown
-
-
-def outages_of(state: State, outages: Iterable[Outage]) -> list[Json]:
-    """Outages of sections, gathered by what cut them off; those of most customers first."""
-    found: dict[tuple[int, int], Json] = {}
-    for each in outages:
-        row = outage_view(state, each)
-        key = each.entry, 0 if each.entry else each.since
-        whole = found.setdefault(key, {**row, "sections": [], "customers": 0, "feeders": [], "until": row["until"]})
-        whole["sections"].append(row["section"])
-        whole["customers"] += row["customers"]
-        whole["feeders"] = sorted({*whole["feeders"], row["feeder"]})
-        if row["since"]["second"] < whole["since"]["second"]:
-            whole["since"] = row["since"]
-        if not row["until"] or (whole["until"] and row["until"]["second"] > whole["until"]["second"]):
-            whole["until"] = row["until"]
-    return sorted(found.values(), key=lambda row: (-row["customers"], row["since"]["second"]))
 
 
 def news_view(state: State, commands: Sequence[Command], supply: Supply) -> list[Json]:
@@ -110,12 +108,10 @@ def news_view(state: State, commands: Sequence[Command], supply: Supply) -> list
 def now_view(state: State, supply: Supply) -> Json:
     """Who is without supply at a second, and how all devices stand then."""
     at = supply.second
-    outages = [outage_view(state, row) for row in supply.outages]
-    outages.sort(key=lambda row: (-row["since"]["second"], -row["customers"], row["section"]))
     return {
         "number": state.number,
         "at": moment(state, at),
-        "outages": outages,
+        "outages": outages_of(state, supply.outages),
         "customers_out": sum(row.customers for row in supply.outages),
         "customers_served": sum(state.customers_at(node, at) for node in state.sections()),
         **diagram_view(state, supply),
@@ -124,12 +120,11 @@ def now_view(state: State, supply: Supply) -> Json:
 
 def diagram_view(state: State, supply: Supply) -> Json:
     """The one-line diagram: parts without supply first, the others by feeder."""
-    at, devices, nodes = supply.second, state.devices, len(state.nodes)
+    at, devices = supply.second, state.devices
     closed, supplied = closed_devices(state, supply), supplied_nodes(state, supply)
     order = [(int(supplied[number]), feeder, number) for number, (_, _, feeder) in enumerate(state.nodes)]
-    layout = layout_of(nodes, devices, order)
-    normal = normal_ways(nodes, devices, layout, closed)
-    tree = set(layout.above.values())
+    layout = layout_of(devices, order)
+    normal, tree = normal_ways(layout, closed), {number for number, _ in layout.above.values()}
     return {
         "nodes": [
             {
@@ -240,8 +235,5 @@ def customers_view(state: State, query: dict[str, str]) -> Json:
     if node is None or not state.is_section(node):
         return {"section": section, "customers": [], "found": 0}
     section, numbers = state.nodes[node][0], sorted(state.members[node]) if only is None else [only]
-    rows = []
-    for each in numbers[:500]:
-        _, since, until = state.customers[each]
-        rows.append({"no": each, "since": text(state, since), "until": "" if until is None else text(state, until)})
+    rows = [{"no": each, **span_view(state, *state.customers[each][1:])} for each in numbers[:500]]
     return {"section": section, "customers": rows, "found": len(numbers)}

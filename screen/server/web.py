@@ -132,7 +132,7 @@ async def check(request: web.Request, handler: Handler) -> web.StreamResponse:
     except Refused as refused:
         return complaint(503 if isinstance(refused, NotNow) else 422, "refused here", str(refused))
     except Away as away:
-        return answer(503, {"error": "away", "words": "The desk gives no answer.", "why": str(away)})
+        return answer(503, {"error": "away", "words": "The book's server gives no answer.", "why": str(away)})
     except BookError as error:
         return complaint(500, "book", str(error))
     except OSError as error:
@@ -210,7 +210,7 @@ async def json_body(request: web.Request) -> dict[str, str]:
 # Pages and what they read.
 
 
-TYPES = {".html": "text/html", ".js": "text/javascript", ".css": "text/css", ".svg": "image/svg+xml"}
+TYPES = {".js": "text/javascript", ".css": "text/css", ".svg": "image/svg+xml"}
 
 
 def file(name: str) -> web.StreamResponse:
@@ -221,7 +221,8 @@ def file(name: str) -> web.StreamResponse:
 
 
 async def page(request: web.Request) -> web.StreamResponse:
-    return file(f"{PAGES[request.path]}.html")
+    text = (STATIC / "page.html").read_text().replace("{page}", PAGES[request.path])
+    return web.Response(text=text, content_type="text/html", charset="utf-8")
 
 
 async def static(request: web.Request) -> web.StreamResponse:
@@ -364,7 +365,7 @@ async def command(request: web.Request) -> web.StreamResponse:
         told["remark"] = remark[:REMARK_LETTERS]
     names = {"kind", "ref", *(f"f{place}" for place in range(1, 7))}
     if not {"kind", "ref"} <= body.keys() <= names or body["kind"] not in FIELDS:
-        raise Refused("a command has kind, ref and f1 to f6")
+        raise Refused("a change has kind, ref and f1 to f6")
     if name_in(body["ref"]) != name:
         raise Refused(f"the reference has to be SCR-{name}- and some of A-Z, 0-9 and _, 40 letters at most")
     if body["kind"] in ("mark", "unmark") and body.get("f2") != name:

@@ -32,8 +32,11 @@ export const ticketLetters = () => REFERENCE - UNIQUE - `SCR-${known.me.name}-_`
 /** Customer-seconds as customer-minutes, to two decimals where they aren't whole. */
 export const inMinutes = (seconds) => Math.round((Number(seconds) / 60) * 100) / 100;
 
-/** What customer-minutes lost change by. */
-export const lostWords = (seconds) => `Customer-minutes lost: ${seconds ? signed(inMinutes(seconds)) : "no change"}`;
+/** Whether the book's period goes on: what is open counts to its end. */
+export const isLive = () => Date.now() <= known.book.last.second * 1000;
+
+/** What customer-minutes lost change by; `until` says up to when. */
+export const lostWords = (seconds, until = "") => `Customer-minutes lost${until}: ${seconds ? signed(inMinutes(seconds)) : "no change"}`;
 
 /** The names of the book's zone, as CET/CEST. */
 export function zoneName() {
@@ -56,7 +59,7 @@ export function breakable(words) {
 export const idle = window.requestIdleCallback ? (work) => requestIdleCallback(work, { timeout: 300 }) : (work) => setTimeout(work, 20);
 
 const SLICE = 100; // rows that are drawn in one go
-const COLUMNS = { "#": "n", "~": "no-print" };
+export const COLUMNS = { "#": "n", "~": "no-print" }; // classes of a column, by how its head begins
 
 /** Draws rows into a table, a slice at a time, for as long as it is shown. */
 function drawRows(body, rows, draw) {
@@ -165,6 +168,8 @@ const PAGES = [
   ["/year", "Figures"],
   ["/shift", "Hand-over"],
 ];
+const heading = document.querySelector("main h1");
+heading.textContent = PAGES.find(([href]) => href === location.pathname)[1];
 const state = el("span", { role: "status", class: "state" });
 const printed = el("span", { class: "print-only" });
 window.addEventListener("beforeprint", () => { printed.textContent = `Printed ${new Date().toLocaleDateString("sv-SE")} ${time()} by this computer's clock`; });
@@ -179,7 +184,6 @@ function head() {
   const me = known.me;
   const rename = me.asks_name && me.could_send ? el("button", { type: "button", class: "small", "aria-label": "Change name", click: () => askName(true) }, "Change") : "";
   const who = el("span", {}, me.name ? `You are ${me.name}${me.may_send ? "" : ", looking only"}` : me.could_send ? "No name yet" : "Looking only");
-  const heading = document.querySelector("main h1");
   title = `${heading.textContent} - ${me.training ? "TRAINING - " : ""}${me.book} - outage book`;
   document.body.classList.toggle("training", me.training);
   document.getElementById("head").replaceChildren(
@@ -200,7 +204,8 @@ function say(place, words) {
 }
 
 const alarms = new Map(); // why what is shown may be old or wrong, by what it comes from
-let title = document.title;
+let title = `${heading.textContent} - outage book`;
+showTitle();
 
 /** The tab's title: an alarm, or how many outages are new, comes first. */
 function showTitle() {
@@ -225,10 +230,10 @@ function alarm(name, words) {
 const time = () => new Date().toLocaleTimeString("en-GB");
 
 export function showDesk(shown) {
-  const words = { here: "Connected", away: "Desk: AWAY", none: "No desk: a copy" };
+  const words = { here: "Connected", away: "Not connected", none: "A copy of a book" };
   say(state, words[shown.desk]);
   alarm("server", null);
-  alarm("desk", shown.desk === "away" && `The desk is away: nothing can be saved now. What is shown is as of command ${shown.number}. The screen tries again each second. (${shown.why})`);
+  alarm("desk", shown.desk === "away" && `The book's server is away: nothing can be saved now. What is shown is as of change no. ${shown.number} of the book. The screen tries again each second. (${shown.why})`);
   alarm("differs", shown.differs && `What is shown may be old: ${shown.differs}.`);
 }
 
@@ -291,7 +296,7 @@ function listen() {
     if (event.what === "commands" || isLater) renewAll(event);
   };
   const lost = (words) => {
-    say(state, "Server: AWAY");
+    say(state, "Not connected");
     alarm("server", `WHAT IS SHOWN MAY BE OLD: ${words}. ${heardAt ? `Last news at ${heardAt} by this computer's clock.` : ""} This page tries again by itself.`);
   };
   document.addEventListener("visibilitychange", () => !document.hidden && isDue && renewAll({}));
@@ -317,7 +322,7 @@ function tell(event) {
   const who = senderOf(command.ref) ?? "Another program";
   const more = event.count > 1 ? `${event.count} changes; the last one: ` : "";
   const at = command.second ? ` at ${momentWords(command.second)}` : "";
-  news.say(`${more}${who}: ${command.kind} ${command.fields.slice(0, 2).join(" ")}${at}. ${lostWords(event.moved)}.`);
+  news.say(`${more}${who}: ${command.kind} ${command.fields.slice(0, 2).join(" ")}${at}. ${lostWords(event.moved, isLive() ? ", to the period's end" : "")}.`);
 }
 
 /** Who asks, and the book's names; asked for until the server answers. */
@@ -327,7 +332,7 @@ async function ask() {
       [known.me, known.book] = await Promise.all([get("/api/me"), get("/api/book")]);
       return;
     } catch (trouble) {
-      document.querySelector("main h1").before(banner);
+      heading.before(banner);
       alarm("server", `Nothing can be shown: ${trouble.message}. This page tries again by itself.`);
       await new Promise((resolve) => setTimeout(resolve, AGAIN_SECONDS * 1000));
     }
@@ -356,10 +361,11 @@ export function reloadBook() {
   return get("/api/book").then((book) => (known.book = book));
 }
 
+export const feeders = () => [...new Set(known.book.nodes.map((node) => node.feeder).filter(Boolean))].sort((one, other) => one - other).map((each) => [String(each), String(each)]);
 export const causes = () => known.book.causes.filter(([code]) => code > 0).map(([code, name]) => [String(code), `${code} ${name}`]);
 
 /** Whose figures are those of the program, as this page gets them. */
-export const source = () => (known.me.desk === "none" ? "from the book" : "from the desk");
+export const source = () => (known.me.desk === "none" ? "from the book" : "from the book's server");
 
 /** One line at a page's foot: where its figures come from. */
 export function foot(words) {
@@ -372,7 +378,7 @@ export function lookOnly() {
   if (me.may_send) return "";
   const why = me.desk === "none" ? "This is a copy of a book" : me.could_send ? "This login is for looking" : "This screen is for looking";
   const words = lacksName() ? "Give your name first" : why;
-  return el("p", { class: "warn" }, `${words}: what a command would do is shown, and nothing can be sent.`);
+  return el("p", { class: "warn" }, `${words}: what a change would do is shown, and nothing can be sent.`);
 }
 
 const LETTERS = { crew: 16, name: 24 };

@@ -42,6 +42,9 @@ export function moment(value) {
   return text ? timeOf(text, clock(text)) : "";
 }
 
+/** A moment to the minute. */
+export const toMinute = ({ text }) => timeOf(text, [text.slice(0, 10), text.slice(11, 16)]);
+
 /** A moment in a list: its offset only in an hour that the clock shows twice. */
 export function listed(value) {
   const text = typeof value === "string" ? value : value.text;

@@ -1,6 +1,6 @@
 // What a command would do, and what it did: sections in a compact list, amounts unfolded when somebody asks.
-import { duration, el, known, lostWords, inMinutes, moment, number, scrolling, signed, table } from "./common.js";
-import { senderOf } from "./unanswered.js";
+import { duration, el, isLive, known, lostWords, inMinutes, moment, number, scrolling, signed, table } from "./common.js";
+import { changeNumbers, senderOf } from "./unanswered.js";
 
 const MANY_DAYS = 3; // with the same amount, that are shown as one row
 
@@ -27,34 +27,45 @@ function amountRows(moved) {
   return rows;
 }
 
-/** What moves. */
+/** What moves; where the period's last day is to come and among it, it counts to the period's end. */
 export function movesTable(moved) {
-  return moved.length ? table(["of", "#customer-seconds"], amountRows(moved), "Amounts that change") : el("p", {}, "Nothing changes.");
+  const last = known.book.days.at(-1);
+  const isToEnd = last > known.book.today && moved.some(([dim, key]) => dim === "day" && dayName(key) === last);
+  const heads = ["of", `#customer-seconds${isToEnd ? ", to the period's end" : ""}`];
+  return moved.length ? table(heads, amountRows(moved), "Amounts that change") : el("p", {}, "Nothing changes.");
 }
 
 const isAtEnd = (until) => until.second > known.book.last.second;
-const kindOf = (row) => (row.loses && row.gets_back ? "loses and gets back supply" : row.loses ? "LOSES supply" : "gets back supply");
 
-/** How long a section is without supply more, or less, than before; nothing where that is all up to the period's end. */
-function lengthWords(whole, loses, back, isOpen) {
-  if (loses && back) return ` (${duration(loses)} more, ${duration(back)} less)`;
-  const seconds = loses || back;
-  if (seconds < whole) return ` (${duration(seconds)} of it)`;
-  return isOpen ? "" : ` (${duration(seconds)})`;
+/** What happens to a section by a switching; or, where an entry is changed, what will be known of it then. */
+function kindOf({ loses, gets_back: back }, isChange) {
+  if (loses && back) return isChange ? "will be without supply at other times" : "loses and gets back supply";
+  if (loses) return isChange ? "will be without supply" : "LOSES supply";
+  return isChange ? "will have supply" : "gets back supply";
 }
 
+/** Up to when, and how long a section is without supply more, or less, than before; what goes on now has no length yet. */
+function endWords({ since, until, loses, gets_back: back }) {
+  const whole = until.second - since.second, isWhole = loses + back === whole;
+  const isOpen = loses && !back && since.second * 1000 <= Date.now();
+  if (isAtEnd(until) && isLive()) return [` on${isWhole ? "" : ", with breaks"}${isOpen ? ", still open" : ""}`];
+  const ends = isAtEnd(until) ? [" on"] : [" to ", moment(until)];
+  if (loses && back) return [...ends, ` (${duration(loses)} more, ${duration(back)} less)`];
+  return [...ends, ` (${duration(loses || back)}${isWhole ? "" : " of it"})`];
+}
+
+const counted = (count, word) => `${number(count)} ${word}${count === 1 ? "" : "s"}`;
+const sizeWords = (rows) => `${counted(rows.length, "section")}, ${counted(rows.reduce((sum, row) => sum + row.customers, 0), "customer")}`;
+
 /** The sections in groups of the same seconds: what happens to them and when stands once, above their names. */
-function sectionGroups(sections) {
+function sectionGroups({ sections, is_change: isChange }) {
   const groups = new Map();
   for (const row of sections) {
-    const key = [kindOf(row), row.since.second, row.until.second, row.loses, row.gets_back].join();
+    const key = [row.since.second, row.until.second, row.loses, row.gets_back].join();
     groups.set(key, [...(groups.get(key) ?? []), row]);
   }
   return [...groups.values()].map((rows) => {
-    const [{ since, until, loses, gets_back: back }] = rows;
-    const customers = rows.reduce((sum, row) => sum + row.customers, 0);
-    const ends = isAtEnd(until) ? [" on"] : [" to ", moment(until)];
-    const what = el("p", {}, el("b", {}, kindOf(rows[0])), " from ", moment(since), ...ends, `${lengthWords(until.second - since.second, loses, back, isAtEnd(until))}: ${number(rows.length)} section${rows.length > 1 ? "s" : ""}, ${number(customers)} customers`);
+    const what = el("p", {}, el("b", {}, kindOf(rows[0], isChange)), " from ", moment(rows[0].since), ...endWords(rows[0]), `: ${sizeWords(rows)}`);
     const list = el("ul", { class: "names" }, rows.map((row) => el("li", {}, row.section, el("span", { class: "note" }, ` ${number(row.customers)}`))));
     return el("div", { class: "group" }, what, list);
   });
@@ -68,22 +79,21 @@ function unmarkedParts(unmarked) {
   return [el("p", { class: "unmarked" }, "SAIDI without major event days: ", Object.keys(words).filter((name) => unmarked[name]).map(line).join("; "))];
 }
 
-function lostParts(found) {
-  const lost = el("p", { class: "lost" }, el("b", {}, lostWords(found.total)), found.total ? ` (${signed(found.total)} customer-seconds)` : "");
-  const isOpen = found.is_live && found.sections.some((row) => isAtEnd(row.until));
-  const open = isOpen ? el("p", { class: "note open-end" }, `Counted to the period's end (${known.book.days.at(-1)}), for as long as no other switching of the device is entered.`) : "";
-  return [lost, open];
+/** Customer-minutes lost: of what goes on now up to now first, and then to the period's end. */
+function lostParts(whole, upToNow) {
+  const isOpen = Number.isInteger(upToNow), seconds = isOpen ? upToNow : whole;
+  const lost = el("p", { class: "lost" }, el("b", {}, lostWords(seconds, isOpen ? " up to now" : "")), seconds ? ` (${signed(seconds)} customer-seconds)` : "");
+  const words = `Counted to the period's end (${known.book.days.at(-1)}), for as long as no other switching of the device is entered: ${signed(inMinutes(whole))}.`;
+  return [lost, isOpen ? el("p", { class: "note open-end" }, words) : ""];
 }
 
 /** Customers and sections of one side, as `2 sections, 200 customers lose supply`. */
-function sideWords(rows, verb) {
-  const customers = rows.reduce((sum, row) => sum + row.customers, 0);
-  return rows.length ? [`${number(rows.length)} section${rows.length > 1 ? "s" : ""}, ${number(customers)} customers ${verb}`] : [];
-}
+const sideWords = (rows, verb) => (rows.length ? [`${sizeWords(rows)} ${verb}`] : []);
 
 /** What a step does at its second, on what those before it leave; or all of them together. */
-function stepWords({ sections, reason }) {
-  const sides = [...sideWords(sections.filter((row) => row.loses), "lose supply"), ...sideWords(sections.filter((row) => row.gets_back && !row.loses), "get back supply")];
+function stepWords({ sections, reason, is_change: isChange }) {
+  const [lose, getBack] = isChange ? ["will be without supply", "will have supply"] : ["lose supply", "get back supply"];
+  const sides = [...sideWords(sections.filter((row) => row.loses), lose), ...sideWords(sections.filter((row) => row.gets_back && !row.loses), getBack)];
   return sides.join("; ") || reason || "no section loses or gets back supply";
 }
 
@@ -104,11 +114,11 @@ export function forecastParts(found, tick) {
   if (found.late) parts.push(el("p", { class: "warn hint" }, `This is a late entry: it lies ${duration(found.late, 2)} back.`));
   if (found.future) parts.push(el("div", { class: "warn hint" }, el("p", {}, `This lies ${duration(found.future, 2)} in the future.`), el("label", { class: "check" }, tick, " Yes, it is planned for then")));
   if (found.steps) parts.push(...stepParts(found));
-  if (found.sections.length) parts.push(...sectionGroups(found.sections));
+  if (found.sections.length) parts.push(...sectionGroups(found));
   else if (!found.unmarked && !found.steps) parts.push(el("p", {}, "No section loses or gets back supply."));
   if (found.reason) parts.push(el("p", { class: "warn reason" }, found.reason));
   parts.push(...unmarkedParts(found.unmarked));
-  if (!found.unmarked) parts.push(...lostParts(found));
+  if (!found.unmarked) parts.push(...lostParts(found.total, found.up_to_now));
   if (found.moved.length) parts.push(el("details", { class: "amounts" }, el("summary", {}, "Amounts by cause, feeder and day"), scrolling("What it would change", movesTable(found.moved))));
   return parts;
 }
@@ -116,7 +126,8 @@ export function forecastParts(found, tick) {
 /** It did something else than what was shown, since the book had changed in between: what came first, and a way back. */
 function otherwise({ commands, replies, forecast }, moved) {
   const change = (moves) => signed(inMinutes(total(moves)));
-  const words = `You saw ${change(forecast.moved)} customer-minutes lost; it changed them by ${change(moved)}, since the book had changed in between.`;
+  const end = Number.isInteger(forecast.up_to_now) ? ", counted to the period's end" : "";
+  const words = `You saw ${change(forecast.moved)} customer-minutes lost${end}; it changed them by ${change(moved)}, since the book had changed in between.`;
   const mine = new Set(commands.map((command) => command.ref));
   const first = (replies.at(-1).between ?? []).filter((each) => !mine.has(each.ref)).map((each) => el("li", {}, `${senderOf(each.ref) ?? `another program (${each.ref})`} had sent: ${each.words}${each.entry ? ` (entry ${each.entry})` : ""}`));
   const isOne = commands.length === 1 && commands[0].kind === "switch" && replies[0].entry;
@@ -142,14 +153,14 @@ export function entryLinks(replies) {
 }
 
 function savedWords(replies) {
-  const numbers = several("command", [" ", "s "], replies) + replies.map((shown) => shown.reply.no).join(", ");
+  const numbers = changeNumbers(replies);
   const links = entryLinks(replies);
   return links.length ? ["Saved as ", ...links, ` (${numbers})`] : [`Saved as ${numbers}`];
 }
 
 function triesWords(replies) {
   const isOne = replies.length === 1;
-  if (replies.some((shown) => shown.again)) return isOne ? "This is the stored reply: the command was saved already, and nothing was done twice." : "Some of it was saved already, and has its stored reply: nothing was done twice.";
+  if (replies.some((shown) => shown.again)) return isOne ? "This is the stored reply: it was saved already, and nothing was done twice." : "Some of it was saved already, and has its stored reply: nothing was done twice.";
   const most = Math.max(...replies.map((shown) => shown.tries));
   return most > 1 ? `It took ${most} tries under one reference; it acted once.` : "";
 }
@@ -161,11 +172,11 @@ export function replyParts(intent) {
   const parts = [el("h2", {}, savedWords(replies))];
   const tries = triesWords(replies);
   if (tries) parts.push(el("p", { class: "warn" }, tries));
-  if (replies.every((shown, at) => same(shown.reply.moved, forecast.sent[at]))) parts.push(el("p", { class: "good equal" }, "As forecast."));
+  const isEqual = replies.every((shown, at) => same(shown.reply.moved, forecast.sent[at]));
+  if (isEqual) parts.push(el("p", { class: "good equal" }, "As forecast."), ...lostParts(total(moved), forecast.up_to_now));
   else parts.push(otherwise(intent, moved));
-  parts.push(el("p", { class: "lost" }, lostWords(total(moved))));
   parts.push(el("details", { class: "amounts" }, el("summary", {}, "What it changed"), scrolling("What it changed", movesTable(moved))));
   const raw = replies.flatMap((shown, at) => [el("p", { class: "mono" }, commands[at].ref), el("p", { class: "mono reply" }, shown.text)]);
-  parts.push(el("details", {}, el("summary", {}, several("The desk's repl", ["y as it came", "ies as they came"], replies)), raw));
+  parts.push(el("details", {}, el("summary", {}, "What the book's server answered"), raw));
   return parts;
 }

@@ -2,7 +2,7 @@
 // and the marked days.
 import { fromAddress, toAddress } from "./address.js";
 import { begin, duration, el, field, foot, get, known, number, onCommands, renew, settled, source, table, text } from "./common.js";
-import { listed } from "./elements.js";
+import { listed, toMinute } from "./elements.js";
 import { markedDays } from "./marks.js";
 
 const main = document.getElementById("main");
@@ -18,7 +18,7 @@ const asked = () => Object.fromEntries(Object.entries(inputs).map(([name, input]
 const entryLink = (entry) => (entry ? el("a", { href: `/sheet?entry=${entry}` }, `entry ${entry}`) : "");
 const withRemark = (words, { remark }) => (remark ? `${words} (${remark})` : words);
 const deviceOf = (outage) => outage.device ?? "no switching";
-const sectionsOf = ({ sections }) => `${number(sections.length)}: ${[...sections].sort().join(", ")}`;
+const sectionsOf = ({ sections }) => `${number(sections.length)}: ${sections.map((row) => row.section).sort().join(", ")}`;
 const done = (each, at) => el("div", {}, at ? "; " : "", `${each.what} at `, listed(each.at), withRemark(` by ${each.by}`, each));
 const counted = (rows, found) => (rows.length === found ? number(found) : `the latest ${number(rows.length)} of ${number(found)}`);
 
@@ -52,16 +52,22 @@ function endedPart({ ended }) {
 
 function restPart({ rest, rest_found }) {
   const rows = rest.map((row) => [listed(row.at), row.by, withRemark(row.words, row), row.result]);
-  return part(`What else was sent, also what isn't saved: ${counted(rest, rest_found)}`, ["sent", "by", "command", "result"], rows, "Nothing else was sent in this time.");
+  return part(`What else was sent, also what isn't saved: ${counted(rest, rest_found)}`, ["sent", "by", "change", "result"], rows, "Nothing else was sent in this time.");
 }
 
 function heading(shown) {
   const by = asked().name ? `, sent by ${asked().name}` : "";
   const count = shown.unanswered;
   return [
-    el("p", {}, "From ", listed(shown.since), " up to ", listed(shown.until), by, `, as of command ${shown.number}. The book's period goes from `, listed(known.book.first), " to ", listed(known.book.last), "."),
-    count ? el("p", { class: "warn" }, `Commands without an answer: ${number(count)}. It isn't known whether they are saved.`) : "",
+    el("p", {}, "From ", toMinute(shown.since), " up to ", toMinute(shown.until), by, `, as of change no. ${shown.number} of the book. The book's period goes from ${known.book.days[0]} to ${known.book.days.at(-1)}.`),
+    count ? el("p", { class: "warn" }, `Changes without an answer: ${number(count)}. It isn't known whether they are saved.`) : "",
   ];
+}
+
+/** For paper: who hands over and who takes over, each with a name and a time. */
+function signatures() {
+  const line = (words) => el("p", {}, el("b", {}, words), ["name", "date and time", "signature"].map((each) => el("span", {}, each)));
+  return el("section", { class: "signatures print-only", "aria-label": "Signatures" }, ["Handed over by", "Taken over by"].map(line));
 }
 
 async function show() {
@@ -81,7 +87,7 @@ begin(async () => {
   const print = el("button", { type: "button", class: "main", click: () => window.print() }, "Print");
   const fields = Object.entries(FIELDS).map(([name, [label, , note]]) => field(label, inputs[name], note.replace("TODAY", known.book.today)));
   const form = el("form", { class: "card short no-print", "aria-label": "Which time, and sent by whom", submit: (event) => event.preventDefault() }, el("div", { class: "row top" }, fields), el("div", { class: "buttons" }, print));
-  main.append(form, parts, markedDays(), foot(`Open outages are ${source()}; outages that ended follow from what was entered.`));
+  main.append(form, parts, markedDays(), signatures(), foot(`Open outages are ${source()}; outages that ended follow from what was entered.`));
   onCommands(show);
   await show();
 });

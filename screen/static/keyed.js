@@ -1,11 +1,10 @@
 // A table whose rows are kept by key: what is the same stays as it is, so that a selected text, the focus and the row under the
 // pointer stay where they are.
-import { breakable, BRIEF } from "./common.js";
+import { breakable, BRIEF, COLUMNS } from "./common.js";
 import { el } from "./elements.js";
 
 const HELD_SECONDS = 120; // after the last sign of a reader: a page that nobody touches shows its rows in their order
 const TOUCHED_SECONDS = 10; // after a finger, which points at nothing between two touches
-const KINDS = { "#": "n", "~": "no-print" };
 
 /** A cell's text as it is shown; a cell is a text, or `told` with what makes its content anew. */
 const toldOf = (cell) => (typeof cell === "string" ? cell : cell.told);
@@ -22,7 +21,7 @@ export class KeyedTable {
     this.isPointed = false;
     this.touched = 0; // when the reader last gave a sign
     this.body = el("tbody", { role: "rowgroup" });
-    const head = heads.map((words) => el("th", { scope: "col", role: "columnheader", class: KINDS[words[0]] }, words.replace(/^[#~]/, "")));
+    const head = heads.map((words) => el("th", { scope: "col", role: "columnheader", class: COLUMNS[words[0]] }, words.replace(/^[#~]/, "")));
     const top = el("thead", { role: "rowgroup" }, el("tr", { role: "row" }, head));
     this.element = el("div", { class: "scroll" }, el("table", { class: name, role: "table" }, el("caption", { class: "hidden" }, caption), top, this.body));
     this.body.addEventListener("pointerenter", () => { this.isPointed = true; this.touch(); });
@@ -85,7 +84,7 @@ export class KeyedTable {
   patch({ key, cells }) {
     let row = this.rows.get(key);
     if (!row) {
-      const places = cells.map((_, at) => el("td", { role: "cell", class: KINDS[this.heads[at][0]], "data-label": this.heads[at].replace(/^[#~]/, "") }));
+      const places = cells.map((_, at) => el("td", { role: "cell", class: COLUMNS[this.heads[at][0]], "data-label": this.heads[at].replace(/^[#~]/, "") }));
       row = { element: el("tr", { "data-key": key, role: "row", tabindex: "-1" }, places), told: [] };
       this.rows.set(key, row);
       this.body.append(row.element);

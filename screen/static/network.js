@@ -1,5 +1,5 @@
 // The network: nodes, devices with their lives, customers by section; and the commands that change them.
-import { begin, choice, el, field, foot, get, known, list, lookOnly, number, onCommands, reloadBook, renew, scrolling, settled, spelled, table, text } from "./common.js";
+import { begin, choice, el, field, foot, get, known, list, lookOnly, number, onCommands, reloadBook, renew, scrolling, settled, source, spelled, table, text } from "./common.js";
 import { Draft } from "./drafts.js";
 import { MomentField } from "./moments.js";
 import { Sender } from "./sender.js";
@@ -110,7 +110,7 @@ async function showCustomers(asked) {
     customers.replaceChildren(el("p", { class: "warn" }, asked.number ? `No customer has the number ${asked.number}.` : `${section} has no customers.`));
     return;
   }
-  const rows = shown.customers.map((row) => [String(row.no), row.since, row.until || "without end"]);
+  const rows = shown.customers.map((row) => [String(row.no), row.since || "always", row.until || "without end"]);
   const more = shown.found > shown.customers.length ? ` The first ${shown.customers.length} are shown.` : "";
   customers.replaceChildren(el("div", { class: "card", tabindex: "-1" }, el("h2", {}, asked.number ? `Customer ${asked.number}: section ${section}` : `${number(shown.found)} customers of ${section}`), el("p", {}, el("a", { href: `/?text=${section}` }, `Outages of ${section} now`), more), scrolling("Customers", table(["#customer", "in service from", "until before"], rows, `Customers of ${section}`))));
   customers.firstElementChild.focus();
@@ -133,7 +133,7 @@ function searchForm(search) {
 begin(async () => {
   const search = text({ "data-search": "yes", input: settled(() => { searched = search.value.trim().toUpperCase(); show(); }) });
   form = known.me.may_send ? commandForm() : null;
-  main.append(words, searchForm(search), customers, el("div", { class: "two" }, devices, nodes), lookOnly(), form ? form.element : "", foot("Devices, nodes and customers are those of the book; what a change would do is from the desk."));
+  main.append(words, searchForm(search), customers, el("div", { class: "two" }, devices, nodes), lookOnly(), form ? form.element : "", foot(`Devices, nodes and customers are those of the book; what a change would do is ${source()}.`));
   onCommands(async () => { await reloadBook(); show(); });
   show();
 });

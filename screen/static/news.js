@@ -12,7 +12,7 @@ const SEEN = "outagebook-seen", QUIET = "outagebook-quiet";
 
 const whoOf = (outage) => senderOf(outage.ref) ?? outage.crew;
 const feederOf = ({ feeders }) => `feeder${feeders.length > 1 ? "s" : ""} ${feeders.join(", ")}`;
-const sectionsOf = ({ sections }) => (sections.length > SECTIONS_NAMED ? `${number(sections.length)} sections` : sections.join(", "));
+const sectionsOf = ({ sections }) => (sections.length > SECTIONS_NAMED ? `${number(sections.length)} sections` : sections.map((row) => row.section).join(", "));
 const customersOf = ({ customers }) => `${number(customers)} customer${customers === 1 ? "" : "s"}`;
 const wordsOf = (outage) => `${outage.device}: ${customersOf(outage)} out, ${feederOf(outage)}, ${sectionsOf(outage)}, by ${whoOf(outage)}`;
 const newWords = (count) => `${number(count)} new outage${count === 1 ? "" : "s"}`;

@@ -41,7 +41,7 @@ async function show({ anew = false } = {}) {
   tiles.replaceChildren(
     tile(shown.customers_out, "Customers without supply", number(shown.customers_out), `of ${number(shown.customers_served)} in service`),
     tile(found, "Outages", number(found)),
-    tile(shown.outages.length, "Sections without supply", number(shown.outages.length)),
+    tile(found, "Sections without supply", number(shown.outages.reduce((sum, row) => sum + row.sections.length, 0))),
     outages.whole,
     el("div", { class: "tile" }, "As of ", el("b", { class: "when" }, moment(shown.at))),
   );

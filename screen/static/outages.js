@@ -1,28 +1,16 @@
 // Outages: what one switching cut off and is still without supply, largest first; filtered and sorted by the page's address.
 import { fromAddress, toAddress } from "./address.js";
-import { breakable, BRIEF, causes, choice, duration, el, field, known, lacksName, number, settled, text, toName } from "./common.js";
+import { breakable, BRIEF, causes, choice, duration, el, feeders, field, known, lacksName, number, settled, text, toName } from "./common.js";
 import { momentFrom, ticketOf } from "./elements.js";
 import { KeyedTable } from "./keyed.js";
 
 const HEADS = ["cut off by", "#customers", "sections", "#feeder", "since", "#for", "cause", "crew", "entry", "supplied again", "~close"];
 const ORDERS = { largest: "largest first", longest: "longest first", newest: "newest first", feeder: "by feeder" };
 
-/** The outages of what is without supply, by the entry that cut it off: its sections, all that they have in common. */
-export function outagesOf(shown) {
-  const closed = new Map(shown.devices.map((device) => [device.name, device.closed]));
-  const found = new Map();
-  for (const row of shown.outages) {
-    const key = row.entry ? `entry-${row.entry}` : `none-${row.since.second}`;
-    if (!found.has(key)) found.set(key, { ...row, key, customers: 0, sections: [], feeders: [], isClosed: closed.get(row.device) ?? false });
-    const outage = found.get(key);
-    outage.customers += row.customers;
-    outage.sections.push(row);
-    if (!outage.feeders.includes(row.feeder)) outage.feeders.push(row.feeder);
-    if (row.since.second < outage.since.second) outage.since = row.since;
-    if (outage.until && (!row.until || row.until.second > outage.until.second)) outage.until = row.until;
-  }
-  for (const outage of found.values()) outage.feeders.sort((one, other) => one - other);
-  return [...found.values()];
+/** The outages, each with the key of its row and whether its device is closed again. */
+function outagesOf({ outages, devices }) {
+  const closed = new Map(devices.map((device) => [device.name, device.closed]));
+  return outages.map((row) => ({ ...row, key: row.entry ? `entry-${row.entry}` : `none-${row.since.second}`, isClosed: closed.get(row.device) ?? false }));
 }
 
 const bySize = (one, other) => other.customers - one.customers || other.sections.length - one.sections.length || one.since.second - other.since.second || one.entry - other.entry;
@@ -49,9 +37,8 @@ export class Outages {
   }
 
   fields() {
-    const feeders = [...new Set(known.book.nodes.map((node) => node.feeder).filter(Boolean))].sort((one, other) => one - other);
     this.inputs = {
-      feeder: choice([["", "all"], ...feeders.map((each) => [String(each), String(each)])], this.wanted.feeder),
+      feeder: choice([["", "all"], ...feeders()], this.wanted.feeder),
       cause: choice([["", "all"], ...causes()], this.wanted.cause),
       text: text({ value: this.wanted.text, "data-search": "yes" }),
       order: choice(Object.entries(ORDERS), this.wanted.order || "largest"),

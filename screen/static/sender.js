@@ -21,10 +21,10 @@ function forecastOf(commands) {
 /** What is sent: the commands in the order in which they go, each under its reference before the first one is sent. A remark
  * goes with the step that is the first in time. */
 function intentOf(commands, shown, { name = "", remark = "" }) {
-  const { number, moved, words, order = [0], sent = [moved], steps } = shown;
+  const { number, moved, up_to_now, words, order = [0], sent = [moved], steps } = shown;
   const ordered = order.map((place) => ({ ...commands[place], ref: newReference(name) }));
   if (remark) ordered[order.indexOf(steps ? steps[0].place : 0)].remark = remark;
-  return { commands: ordered, places: order, replies: [], forecast: { number, moved, sent }, words, sent: Date.now() };
+  return { commands: ordered, places: order, replies: [], forecast: { number, moved, up_to_now, sent }, words, sent: Date.now() };
 }
 
 /** `read` answers the command or a list of them, or null where a field is missing. `form` sends by the Enter key too, in its
@@ -128,8 +128,8 @@ export class Sender {
   }
 
   /** Shows a forecast; one that says the same as what stands there moves nothing on the page, and is read out no second time. */
-  draw({ number: _, ...found }) {
-    const told = JSON.stringify(found);
+  draw(found) {
+    const told = JSON.stringify({ ...found, number: null, up_to_now: null });
     if (told === this.drawn && this.forecast.querySelector("h2")) return;
     this.drawn = told;
     const wasOpen = this.forecast.querySelector("details")?.open;
@@ -224,7 +224,7 @@ export class Sender {
   }
 
   answeredElsewhere() {
-    this.outcome.replaceChildren(el("p", { class: "warn" }, `This command isn't in the list of unanswered ones any more: ${this.intent.words}. The switching log shows what is saved.`));
+    this.outcome.replaceChildren(el("p", { class: "warn" }, `This change isn't in the list of those without an answer any more: ${this.intent.words}. The switching log shows what is saved.`));
     this.end();
     this.update();
   }

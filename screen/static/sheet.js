@@ -1,6 +1,6 @@
 // The switching log: entries, what each command moved, corrections and withdrawals; and the screen's own log.
 import { fromAddress, toAddress } from "./address.js";
-import { begin, causes, choice, el, field, foot, get, known, list, lookOnly, momentWords, number, onCommands, renew, scrolling, settled, source, spelled, table, text, zoneName } from "./common.js";
+import { begin, causes, choice, el, feeders, field, foot, get, known, list, lookOnly, momentWords, number, onCommands, renew, scrolling, settled, source, spelled, table, text, zoneName } from "./common.js";
 import { Draft } from "./drafts.js";
 import { listed, ticketOf } from "./elements.js";
 import { MomentField } from "./moments.js";
@@ -48,8 +48,6 @@ function clear() {
   for (const [name, input] of Object.entries(inputs)) if (name in SEARCHED) input.value = "";
   search();
 }
-
-const feeders = () => [...new Set(known.book.nodes.filter((node) => node.kind === 2).map((node) => node.feeder))].sort((one, other) => one - other).map((each) => [String(each), String(each)]);
 
 async function filters() {
   const make = (name, input) => {
@@ -148,9 +146,9 @@ async function open(no, { kind = "correct" } = {}) {
   const parts = [el("h2", {}, `Entry ${entry.no} `, tags(entry)), words];
   for (const command of entry.history) {
     const reply = command.text ? JSON.parse(command.text) : null;
-    const words = `Command ${command.no}, ${command.kind}, ${command.ref}${command.second ? `, ${momentWords(command.second)}` : ""}`;
+    const words = `Change no. ${command.no} of the book: ${command.kind}, ${command.ref}${command.second ? `, ${momentWords(command.second)}` : ""}`;
     if (command.remark) parts.push(el("p", { class: "remark" }, `Remark: ${command.remark}`));
-    parts.push(el("details", {}, el("summary", {}, words), reply ? scrolling("What it changed", movesTable(reply.moved)) : "the desk gives no reply now"));
+    parts.push(el("details", {}, el("summary", {}, words), reply ? scrolling("What it changed", movesTable(reply.moved)) : "the book's server gives no reply now"));
   }
   if (entry.kept && known.me.may_send) parts.push(work(entry, words, kind));
   parts.push(el("div", { class: "buttons" }, el("button", { type: "button", click: () => { opened = null; toAddress({ entry: "", withdraw: "" }); detail.replaceChildren(); rows.querySelector(`[data-entry="${no}"]`)?.focus(); } }, "Close")));
@@ -211,7 +209,7 @@ begin(async () => {
   Object.assign(wanted, fromAddress([...Object.keys(SEARCHED), "order"]));
   from = Number(fromAddress(["from"]).from ?? 0) || 0;
   const narrow = matchMedia("(max-width: 40rem)").matches;
-  main.append(lookOnly(), el("details", { class: "search no-print", open: !narrow }, el("summary", {}, "Search"), await filters()), detail, rows, shiftLog(), foot(`What a command changed is ${source()}, in its own reply; status and search follow from what was entered.`));
+  main.append(lookOnly(), el("details", { class: "search no-print", open: !narrow }, el("summary", {}, "Search"), await filters()), detail, rows, shiftLog(), foot(`What each entry changed is ${source()}, in its own reply; status and search follow from what was entered.`));
   onCommands(() => { show(); showLog(); lookAgain(); });
   await Promise.all([show(), showLog()]);
   const asked = new URLSearchParams(location.search);

@@ -27,7 +27,7 @@ export async function showLog() {
     row.entry ? el("a", { href: `/sheet?entry=${row.entry}` }, row.result) : row.result,
     row.reference,
   ]);
-  rows.replaceChildren(lines.length ? table(["sent", "by", "command", "result", "reference"], lines, "What was sent, latest first") : el("p", {}, "Nothing was sent."));
+  rows.replaceChildren(lines.length ? table(["sent", "by", "change", "result", "reference"], lines, "What was sent, latest first") : el("p", {}, "Nothing was sent."));
 }
 
 /** The log with its search, folded. */

@@ -87,6 +87,9 @@ function isLeft(ref) {
 export const senderOf = (ref) => /^SCR-(.+)-[A-Z0-9_]+$/.exec(ref)?.[1];
 const ageOf = (intent) => `sent ${duration(Math.max(1, Math.floor((Date.now() - intent.sent) / 1000)))} ago`;
 
+/** The numbers under which the book has what was answered. */
+export const changeNumbers = (replies) => `change${replies.length > 1 ? "s" : ""} no. ${replies.map((shown) => shown.reply.no).join(", ")} of the book`;
+
 /** How much of a list is saved. */
 const savedOf = ({ commands, replies }) => (commands.length > 1 ? `${replies.length} of ${commands.length} steps are saved: ` : "");
 
@@ -118,7 +121,7 @@ async function resend(intent, outcome, button) {
   const next = () => store.getItem(PREFIX + ref) && keep(intent);
   try {
     await sendRest(intent, next);
-    settle(ref, el("p", { class: "good" }, `Saved as command${replies.length > 1 ? "s" : ""} ${replies.map((shown) => shown.reply.no).join(", ")}${againWords(replies)}. ${words}.`));
+    settle(ref, el("p", { class: "good" }, `Saved as ${changeNumbers(replies)}${againWords(replies)}. ${words}.`));
   } catch (trouble) {
     if (!(trouble instanceof Trouble)) throw trouble;
     const reply = trouble.shown.reply;
@@ -146,7 +149,7 @@ function settle(ref, words) {
 
 function count() {
   const open = [...shown.values()].reduce((sum, row) => sum + Number(row.dataset.open), 0);
-  title.textContent = open ? `${open} command${open > 1 ? "s" : ""} without an answer` : rows.children.length ? "Answered" : "";
+  title.textContent = open ? `${open} change${open > 1 ? "s" : ""} without an answer` : rows.children.length ? "Answered" : "";
   notKnown.textContent = open ? `It isn't known whether ${open > 1 ? "they are" : "it is"} saved.` : "";
   place.hidden = !rows.children.length;
 }

@@ -150,7 +150,7 @@ function importForm() {
     }
     button.disabled = false;
   };
-  return el("form", { class: "card", submit: send }, el("h2", {}, "Import a CSV of commands"), field("File, up to 4 MB", file), el("div", { class: "buttons" }, button), report);
+  return el("form", { class: "card", submit: send }, el("h2", {}, "Import a CSV of changes"), field("File, up to 4 MB", file), el("div", { class: "buttons" }, button), report);
 }
 
 function reportOf(shown) {
@@ -161,7 +161,7 @@ function reportOf(shown) {
 }
 
 begin(async () => {
-  const links = [["/report", "The printed report (opens another tab)"], ["/download/table.txt", "Annual table (saves a file)"], ["/download/commands.csv", "Commands as CSV (saves a file)"], ["/download/moves.csv", "Moves as CSV (saves a file)"]];
+  const links = [["/report", "The printed report (opens another tab)"], ["/download/table.txt", "Annual table (saves a file)"], ["/download/commands.csv", "All changes as CSV (saves a file)"], ["/download/moves.csv", "What each changed, as CSV (saves a file)"]];
   const mark = known.me.may_send ? markForm() : null;
   main.append(
     el("div", { class: "buttons no-print" }, links.map(([href, words]) => el("a", { href, target: href === "/report" ? "_blank" : null, rel: "noopener" }, words))),

@@ -155,7 +155,7 @@ class Browser:
 
     def unanswered(self, count: int) -> None:
         """Waits until so many commands are said to have no answer, and unfolds them."""
-        self.says(".unanswered summary", f"{count} command{'s' if count > 1 else ''} without an answer")
+        self.says(".unanswered summary", f"{count} change{'s' if count > 1 else ''} without an answer")
         self.unfold(".unanswered")
 
     def complaints(self) -> list[str]:

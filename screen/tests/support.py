@@ -19,7 +19,7 @@ import urllib.request
 from collections.abc import Callable, Iterable, Sequence
 from contextlib import suppress
 from datetime import datetime, timedelta, timezone
-from functools import lru_cache, partial
+from functools import lru_cache
 from pathlib import Path
 from typing import IO, Any
 
@@ -277,7 +277,8 @@ class Screen(Client):
 
 class Between:
     """A proxy before a port. It hands bytes on, counts POSTs and notes routes. It cuts the replies to some POSTs off; while it
-    has a status, it answers each request with that and a page of its own, as nginx does while the screen is away."""
+    has a status, it answers each request with that and a page of its own, as nginx does while the screen is away, or another
+    site."""
 
     def __init__(self, to: int = 0) -> None:
         self.to, self.status, self.is_held = to, 0, False
@@ -384,7 +385,11 @@ class Case(unittest.TestCase):
 
     def stop(self, process: int) -> Callable[[], None]:
         """Stops a process, which goes on when the answer is called, at the test's end at the latest."""
+
+        def go_on() -> None:
+            with suppress(ProcessLookupError):  # it was killed
+                os.kill(process, signal.SIGCONT)
+
         os.kill(process, signal.SIGSTOP)
-        go_on = partial(os.kill, process, signal.SIGCONT)
         self.addCleanup(go_on)
         return go_on

@@ -3,11 +3,9 @@
 import json
 import os
 import random
-import threading
 import time
 from collections import Counter
 from concurrent.futures import ThreadPoolExecutor
-from http.server import BaseHTTPRequestHandler, ThreadingHTTPServer
 
 import browser
 import support
@@ -19,7 +17,6 @@ from test_server import LIGHTHOUSE
 COMMANDS = int(os.environ.get("SCREEN_COMMANDS", "24"))
 AWAY_SECONDS = float(os.environ.get("SCREEN_AWAY", "2"))  # in which the proxy answers 502
 LATE = "/enter?device=LBS-22&at=2025-04-06T23:52:00%2B02:00"
-LOSES = "/enter?device=CB-1&at=2025-04-06T20:52:00%2B02:00"
 SHIFT = "/shift?since=2025-03-24"
 
 
@@ -109,7 +106,7 @@ class Operators(Case):
         self.one.script("const b = document.querySelector('.send'); b.click(); b.click(); b.click();")
         self.other.says("main", "All sections are supplied")
         self.assertLess(time.monotonic() - begun, support.limit(1.0))
-        self.one.says(".outcome", "(command 103)")
+        self.one.says(".outcome", "(change no. 103 of the book)")
         self.one.says(".outcome .equal", "As forecast")
         self.other.recorded("ANNA: switch LBS-22 close")
         self.assertEqual(self.one.text(".said"), "")  # it stands where it was sent
@@ -131,10 +128,10 @@ class Operators(Case):
         self.one.says(".outcome .note", "Not sent: what it would do is shown first")
         self.one.says(".forecast", "gets back supply")  # for another time the position is offered anew
         self.one.click(".send")
-        self.one.says(".outcome", "(command 103)")
+        self.one.says(".outcome", "(change no. 103 of the book)")
         self.one.find("input[list=crews]").send_keys(Keys.ENTER)  # once more, as a finger that stays on the key
         time.sleep(0.5)
-        self.assertIn("(command 103)", self.one.text(".outcome"))
+        self.assertIn("(change no. 103 of the book)", self.one.text(".outcome"))
         self.assertEqual(screen.number(), 103)
 
     def test_the_keyboard_alone(self) -> None:
@@ -300,9 +297,11 @@ class Live(Case):
             page.go(url)
         return handles
 
-    def ten(self, kind: str, position: str, seen: str) -> None:
+    def ten(self, kind: str, position: str, seen: str) -> list[str]:
+        """A switching from the first of ten pages is seen on all: their handles."""
         page = self.one
         page.open(f"{self.url}/")
+        first = page.driver.current_window_handle
         routes = ("/enter?device=LBS-1", "/sheet", "/network", "/year", "/", "/enter", "/", "/network", "/sheet")
         handles = self.windows(page, kind, [self.url + route for route in routes])
         page.driver.switch_to.window(handles[0])
@@ -316,22 +315,18 @@ class Live(Case):
         page.driver.switch_to.window(handles[8])
         page.says("main table", str(len(self.live.entries())))
         self.assertEqual(page.text(".alarm"), "")
+        return [first, *handles]
 
     def test_ten_tabs_or_windows_of_one_browser(self) -> None:
-        """A browser opens six connections to a server: with a stream of events for each page the seventh page got nothing."""
+        """A browser opens six connections to a server: with a stream of events for each page the seventh page got nothing. The
+        window that has it is left at last."""
         self.ten("tab", "open", "MILL")
-        self.ten("window", "close", "All sections are supplied")
-
-    def test_the_window_that_has_the_stream_is_closed(self) -> None:
-        page = self.opened("/")
-        first = page.driver.current_window_handle
-        second = self.windows(page, "window", [f"{self.url}/"])[0]
-        page.says("main", "All sections are supplied")
-        page.driver.switch_to.window(first)
-        page.driver.get(f"{self.url}/static/icon.svg")
-        page.driver.switch_to.window(second)
+        handles = self.ten("window", "close", "All sections are supplied")
+        self.one.driver.switch_to.window(handles[0])
+        self.one.driver.get(f"{self.url}/static/icon.svg")
+        self.one.driver.switch_to.window(handles[5])
         self.switch("open")
-        page.says("main table", "MILL")
+        self.one.says("main table", "MILL")
 
     def test_after_any_answer_a_page_hears_again(self) -> None:
         """What stands before the screen answers 502, 503 or 401 for a while: the page says so, and is current afterwards."""
@@ -366,7 +361,7 @@ class Live(Case):
                 self.assertEqual(page.probe("hits"), before, route)
                 page.probe("leaveUnanswered")
                 self.addCleanup(page.driver.execute_script, "localStorage.clear()")
-                page.says(".unanswered summary", "1 command without an answer")
+                page.says(".unanswered summary", "1 change without an answer")
                 self.assertEqual(page.probe("hits"), before, route)
                 self.assertEqual(page.probe("faint"), [], route)
                 page.script("window.scrollTo(0, document.body.scrollHeight)")
@@ -386,16 +381,6 @@ class Live(Case):
         self.stop(self.live.process.pid)
         ask = "return import('/static/common.js').then(({ get }) => get('/api/now', {}, 1)).catch((trouble) => trouble.message)"
         self.assertIn("no answer within 1 seconds", page.script(ask))
-
-    def test_a_desk_that_is_stopped_is_told_of(self) -> None:
-        """It takes connections and answers nothing: every page says so, also one that sends nothing, until it goes on."""
-        page = self.opened("/")
-        go_on = self.stop(self.live.desk_process())
-        said = page.says(".alarm", "The desk is away: nothing can be saved now")
-        self.assertIn("no answer within 10 seconds", said)
-        self.assertTrue(page.title.startswith("(!) "))
-        go_on()
-        page.quiet()
 
     def test_a_computer_that_was_asleep(self) -> None:
         """Its connections died unheard, and its clock went on by an hour: the page says that it may be old, and begins anew."""
@@ -420,7 +405,9 @@ class Live(Case):
         self.other.wait(lambda: abs(self.other.script(shown) - time.time()) < 30, "the server's time")
 
     def test_commands_without_an_answer_stay_in_the_head_of_every_page(self) -> None:
-        """The desk hangs; the pages that sent are left: the commands are shown until they are answered, and act once."""
+        """The desk hangs, and takes connections: also a page that sends nothing says so. The pages that sent are left: the
+        commands are shown until they are answered, and act once."""
+        self.other.open(f"{self.url}/")
         self.switch("open")
         entry = self.live.entries()[0]["no"]
         before = self.live.number()
@@ -443,11 +430,15 @@ class Live(Case):
         page.driver.get(f"{self.url}/network")
         page.unanswered(2)
         self.assertIn("CB-1 open at 20", page.text(".unanswered"))
+        said = self.other.says(".alarm", "The book's server is away: nothing can be saved now")
+        self.assertIn("no answer within 10 seconds", said)
+        self.assertTrue(self.other.title.startswith("(!) "))
         go_on()
+        self.other.quiet()
         for left in (1, 0):
             page.click(".again-above:enabled")
-            page.says(".unanswered", f"{left} command" if left else "Answered")
-        self.assertEqual(page.text(".unanswered").count("Saved as command"), 2)
+            page.says(".unanswered", f"{left} change" if left else "Answered")
+        self.assertEqual(page.text(".unanswered").count("Saved as change"), 2)
         self.assertEqual(self.live.number(), before + 2)
         page.go(f"{self.url}/network")
         self.assertEqual(page.text(".unanswered"), "")
@@ -559,7 +550,7 @@ class Live(Case):
         self.assertGreater(float(sizes[0][:-2]), 1.5 * float(sizes[1][:-2]))
         up_to_now, whole = (page.text(f".{name} .tile:nth-child(5) b").replace("\u2009", "") for name in shown[:2])
         self.assertLess(float(up_to_now), float(whole) / 100)
-        last = max(each.text for each in page.all(".tall td") if each.text[4:5] == "-")
+        last = max((each.text for each in page.all(".tall td") if each.text[4:5] == "-"), default="")
         self.assertLessEqual(last[:10], time.strftime("%Y-%m-%d", time.gmtime(time.time() + 7_200)))
         self.switch("close")
         page.says(".open-outages", "No outage is open.")
@@ -569,18 +560,25 @@ class Live(Case):
         page.open(f"{self.url}/enter?device=LBS-1")
         page.fill("Cause", "1")
         page.says(".forecast .open-end", "Counted to the period's end")
-
-    def test_a_closing_under_an_open_device_says_why(self) -> None:
-        self.switch("open")
-        self.switch("open", "CB-1")
-        page = self.opened(f"/enter?device=LBS-1&at={self.second()}")
-        page.says("form", "LBS-1 is open then")
-        page.says(".forecast", "No section loses or gets back supply")
-        page.says(".forecast .reason", "Still cut off: above it CB-1 is open since 20")
+        page.go(f"{self.url}/sheet?entry={self.live.entries()[0]['no']}&withdraw=yes")
+        told = page.says(".forecast", "will be without supply from ")
+        for words in (" on, still open: 1 section", "lost up to now: ", "Counted to the period's end"):
+            self.assertIn(words, told)
+        page.send()
+        self.assertIn("lost up to now: ", page.text(".outcome"))
 
 
 OLD_WORDS = ["Desk: here", " commands,", "W moves", "moved W", "not told yet", "told anew", "stands", "2025-04-05"]
-OLD_WORDS += ["clock of the book's zone", "From that second on", "Another second", "Set its life", "unmarked", "Sheet"]
+OLD_WORDS += [
+    " desk",
+    "ommand",
+    "clock of the book's zone",
+    "From that second on",
+    "Another second",
+    "Set its life",
+    "unmarked",
+    "Sheet",
+]
 
 
 class Storm(Case):
@@ -624,6 +622,9 @@ class Storm(Case):
         page.says("form", "LBS-34 is open then")
         self.assertEqual(page.value("Switched to"), "close")
         page.says(".forecast", "gets back supply")
+        page.go(f"{self.url}/enter?device=LBS-21")
+        page.says(".forecast .reason", "Still cut off: above it CB-2 is open since 20")
+        self.assertIn("No section loses or gets back supply", page.text(".forecast"))
 
     def test_a_filter_stands_in_the_address(self) -> None:
         page = self.opened("/")
@@ -667,12 +668,17 @@ class Storm(Case):
         page.point_at(page.find("h1"))
         page.wait(lambda: len(self.devices(page)) == 4, "the rows without it")
 
-    def test_each_page_says_its_book_and_plain_words(self) -> None:
+    def test_each_page_fits_and_says_its_book_in_plain_words(self) -> None:
         """The book's name in head and title; words that nobody has to look up, in the fields too; where figures come from in one
-        line at the foot. Each field and table has a name of its own for readers of screens, and what a field expects can be
-        read."""
+        line at the foot. No page or table is cut off, on a phone what is tapped is 44 pixels high; each field, control and
+        table has a name of its own for readers of screens, and texts stand out from what is behind them."""
+        changed = self.live.switch("open", "LBS-12", ago=600)["entry"]
+        again = {"f3": "open", "f4": str(int(time.time()) - 700), "f5": "2", "f6": "BERT"}
+        self.live.send(kind="correct", f1=str(changed), f2="1", **again)
+        self.live.send(kind="withdraw", f1=str(changed), f2="2")
         routes = {
             "/": "Now",
+            f"/sheet?entry={changed}": "Switching log",
             "/sheet?entry=1": "Switching log",
             "/enter": "New switching",
             "/enter?device=CB-3": "New switching",  # two steps have a field of one name each
@@ -688,9 +694,16 @@ class Storm(Case):
                 self.assertEqual([old for old in [*OLD_WORDS, "computed here"] if old in page.probe("said")], [], route)
                 self.assertEqual(len(page.all(".foot")), 1)
                 page.find("main table, form")
+                if "device" in route:
+                    page.fill("Cause", "1")
+                    page.says(".forecast", "LOSES supply")
+                probes = ["cutOff", "nameless", "faint", "small"][: 4 if page is self.other else 3]
+                for probe in probes:
+                    self.assertEqual(page.probe(probe), [], (probe, route))
                 page.unfold("main")
                 for probe in ("faint",) if "device" in route else ("faint", "unheard"):
                     self.assertEqual(page.probe(probe), [], (probe, route))
+                self.assertEqual(page.complaints(), [], route)
 
     def test_a_forecast_is_a_few_lines(self) -> None:
         """Sections stand in one list below what happens to them and when; amounts and the reply are folded."""
@@ -702,8 +715,9 @@ class Storm(Case):
         self.assertLess(len(told.splitlines()), 16, told)
         self.assertNotIn("feeder 3", told)
         page.unfold(".forecast")
-        page.says(".forecast .amounts", "feeder 3")
-        self.assertIn("days, ", page.text(".forecast .amounts"))
+        amounts = page.says(".forecast .amounts", "feeder 3")
+        for words in ("customer-seconds, to the period's end", "days, "):
+            self.assertIn(words, amounts)
 
 
 class Breaks(Case):
@@ -738,27 +752,13 @@ class Breaks(Case):
         page.unanswered(1)
         page.says(".unanswered", "LBS-22 close at 2025-04-06 23:52:00 +02:00")
         page.click(".again-above")
-        page.says(".unanswered", "Saved as command 103: it was saved already, and nothing was done twice")
+        page.says(
+            ".unanswered", "Saved as change no. 103 of the book: it was saved already, and nothing was done twice"
+        )
         self.assertEqual(second.number(), 103)
 
 
 class Pages(Case):
-    def test_each_page_fits_and_can_be_read(self) -> None:
-        """No page or table is cut off, on a phone what is tapped is 44 pixels high, each field and control has a name, and texts
-        stand out from what is behind them."""
-        screen = self.screen()
-        for page in self.browsers:
-            for route in ("/", "/sheet", "/sheet?entry=10", LATE, LOSES, "/network", "/year", SHIFT):
-                page.open(screen.url + route)
-                if route == LOSES:
-                    page.fill("Cause", "5")
-                    page.says(".forecast", "LOSES supply")
-                page.find("main table")
-                time.sleep(0.3)
-                for probe in ("cutOff", "nameless", "faint") + (("small",) if page is self.other else ()):
-                    self.assertEqual(page.probe(probe), [], (probe, route))
-                self.assertEqual(page.complaints(), [], route)
-
     def test_pages_on_paper(self) -> None:
         """On A4 no column is cut off, forms aren't printed, and a dark page is printed dark on white."""
         wanted = {
@@ -766,7 +766,14 @@ class Pages(Case):
             "/sheet": ("35 of 35 entries", "status", "withdrawn", "OUT-0406-1", "OUT-0325-1"),
             "/network": ("12 devices", "until before", "without end", "10 nodes", "LIGHTHOUSE"),
             "/year": ("OUTAGE BOOK 2025-03-24", "without major", "147.195", "CEMI-10", "8 UNKNOWN", "2025-04-06"),
-            SHIFT: ("Open outages: 1", "LIGHTHOUSE", "39 min 59 s", "Outages that ended: 10", "Marked days"),
+            SHIFT: (
+                "From 2025-03-24 00:00 up",
+                "LIGHTHOUSE",
+                "39 min 59 s",
+                "ended: 10",
+                "Handed over by",
+                "Taken over by",
+            ),
         }
         screen, page = self.screen(), self.other
         for route, words in wanted.items():
@@ -810,21 +817,23 @@ class Pages(Case):
                 self.assertEqual(self.one.probe("tooWide"), [], route)
 
     def test_now_at_another_second(self) -> None:
-        screen = self.screen()
-        self.one.open(f"{screen.url}/")
-        self.one.fill("Go to time", "2025-03-27 14:50:00")
-        told = self.one.says("main", "14:22:10")
+        page = self.opened("/", self.screen().url)
+        page.fill("Go to time", "2025-03-27 14:50:00")
+        told = page.says("main", "14:22:10")
         for words in ("CHURCH-ROW", "CB-1", "2 TREE", "OUT-0327-1", "27 min 50 s"):
             self.assertIn(words, told)
-        self.assertEqual(len(self.one.all(".diagram .node.out")), 4)
-        self.one.fill("Go to time", "2025-03-27 15:00:00")
-        self.one.wait(lambda: len(self.one.all(".diagram .node.by_tie")) == 3, "the sections on the tie")
-        link = self.one.script("return document.querySelector('.diagram a[aria-label^=TIE-1]').href.baseVal || ''")
+        self.assertEqual(len(page.all(".diagram .node.out")), 4)
+        page.fill("Go to time", "2025-03-27 15:00:00")
+        page.wait(lambda: len(page.all(".diagram .node.by_tie")) == 3, "the sections on the tie")
+        link = page.script("return document.querySelector('.diagram a[aria-label^=TIE-1]').href.baseVal || ''")
         self.assertIn("device=TIE-1", link)
-        slider = self.one.find("[type=range]")
-        self.one.script("arguments[0].value = 1743085200; arguments[0].dispatchEvent(new Event('input'));", slider)
+        slider = page.find("[type=range]")
+        page.script("arguments[0].value = 1743085200; arguments[0].dispatchEvent(new Event('input'));", slider)
         shown = "2025-03-27 15:20:00 +01:00"
-        self.one.wait(lambda: self.one.value("Go to time") == shown, "the slider's moment")
+        page.wait(lambda: page.value("Go to time") == shown, "the slider's moment")
+        slider.send_keys(Keys.PAGE_DOWN)
+        said = "2025-03-26 15:20:00 +01:00"  # the day before
+        page.wait(lambda: slider.get_attribute("aria-valuetext") == said, "what a reader of the screen hears")
 
     def test_a_tie_joins_and_a_day_is_marked(self) -> None:
         screen = self.screen()
@@ -848,33 +857,27 @@ class Pages(Case):
         page.says(".imported", "Added 3, known before 0")
 
     def test_a_login_that_may_only_look(self) -> None:
-        screen = self.screen("--read-only")
-        for route in (LATE, "/sheet?entry=10", "/network", "/year", "/"):
-            self.one.open(screen.url + route)
-            self.assertFalse([each for each in self.one.all("button.send, button.main") if each.is_enabled()], route)
-        self.one.open(screen.url + LATE)
-        self.one.says("main", "This screen is for looking")
-        screen.log_in("ANNA")
-        self.assertEqual(screen.post({**LIGHTHOUSE, "ref": "SCR-ANNA-1"})[0], 403)
         self.one.driver.delete_all_cookies()
-        self.one.open(f"{screen.url}/", None)
-        self.assertNotIn("name", self.one.text("header").lower())  # of no use here
-        copy = self.screen("--no-desk", login="ANNA")
-        self.assertEqual(copy.post({**LIGHTHOUSE, "ref": "SCR-ANNA-1"})[0], 403)
-        self.assertEqual(json.loads(copy.call("/api/entries/35")[1]["history"][0]["text"])["no"], 102)
-        self.one.open(f"{copy.url}/year", None)
+        for option, words in (("--read-only", "This screen is for looking"), ("--no-desk", "This is a copy of a book")):
+            screen = self.screen(option, login="ANNA")
+            self.assertEqual(screen.post({**LIGHTHOUSE, "ref": "SCR-ANNA-1"})[0], 403)
+            for route in ("/sheet?entry=10", "/network", "/year", "/", LATE):
+                self.one.open(screen.url + route, None)
+                buttons = self.one.all("button.send, button.main")
+                self.assertFalse([each for each in buttons if each.is_enabled()], route)
+                self.assertNotIn("name", self.one.text("header").lower())  # of no use here
+            self.one.says("main", words)
+        self.assertEqual(json.loads(screen.call("/api/entries/35")[1]["history"][0]["text"])["no"], 102)
+        self.one.open(f"{screen.url}/year", None)
         self.one.says("main", "194.126")
-        self.one.says(".state", "No desk: a copy")
+        self.one.says(".state", "A copy of a book")
         self.assertIn("from the book", self.one.text("main"))
-        self.assertNotIn("from the desk", self.one.text("main"))
-        self.assertNotIn("name", self.one.text("header").lower())
+        self.assertNotIn("server", self.one.text("main"))
         self.shares_are_shares(self.one)
         cells = "return [...document.querySelectorAll('.index')].map((each) => each.innerText.split(' '))"
         shown = self.one.script(cells)
         self.assertIn(["194.126", "4073935/20986"], shown)  # decimals first
         self.assertIn(["99.034", "%", "1246999/1259160"], shown)
-        self.one.open(copy.url + LATE, None)
-        self.one.says("main", "This is a copy of a book")
 
     def shares_are_shares(self, page: browser.Browser) -> None:
         """Bars and figures of causes are parts of the whole, and add up to it."""
@@ -887,33 +890,17 @@ class Pages(Case):
             self.assertEqual(words, f"{part:.1f} %")
 
 
-class Elsewhere(BaseHTTPRequestHandler):
-    """A page of another origin."""
-
-    def do_GET(self) -> None:
-        data = b"<!DOCTYPE html><title>elsewhere</title><body></body>"
-        self.send_response(200)
-        self.send_header("Content-Type", "text/html")
-        self.send_header("Content-Length", str(len(data)))
-        self.end_headers()
-        self.wfile.write(data)
-
-    def log_message(self, *_: object) -> None:
-        pass
-
-
 class Origins(Case):
     def test_a_page_from_elsewhere_neither_reads_nor_acts(self) -> None:
         screen = self.screen()
-        server = ThreadingHTTPServer(("127.0.0.1", 0), Elsewhere)
-        threading.Thread(target=server.serve_forever, daemon=True).start()
-        self.addCleanup(server.server_close)
-        self.addCleanup(server.shutdown)
+        elsewhere = support.Between()
+        self.addCleanup(elsewhere.end)
+        elsewhere.answer(200)
         page = self.opened("/", screen.url)
         screen.log_in("ANNA")
         body = json.dumps({**LIGHTHOUSE, "ref": "SCR-ANNA-1"})
         for host in ("127.0.0.1", "localhost"):  # the same site on another port, and another site
-            page.driver.get(f"http://{host}:{server.server_port}/")
+            page.driver.get(f"http://{host}:{elsewhere.port}/")
             found = page.probe("tryFromElsewhere", screen.url, body, screen.headers["X-Screen-Token"])
             self.assertEqual(found, [""] * len(found))
             page.probe("postForm", screen.url, body)

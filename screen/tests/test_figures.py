@@ -7,13 +7,13 @@ from fractions import Fraction
 from pathlib import Path
 from typing import Any
 
-import offices
 import support
 from server import forecasts, to_now, year
 from support import END, FIRST
+from test_forecasts import Case
 
 
-class Figures(offices.Case):
+class Figures(Case):
     """One customer at QUAY and two at MILL, behind LBS-1."""
 
     async def asyncSetUp(self) -> None:
@@ -64,6 +64,9 @@ class Figures(offices.Case):
         self.assertEqual(await count(), 2)
         await self.switch("CB-1", "close", 600)  # told already: it doesn't count to the period's end
         self.assertEqual(await count(), 1)
+        with unittest.mock.patch("time.time", return_value=self.start + 1_000.0):
+            shown = await forecasts.forecast(self.office, "withdraw", ["3", "1"])
+        self.assertEqual((shown["up_to_now"], shown["total"]), (400, self.state.period.end - self.start - 600))
 
     async def test_a_mark_moves_the_unmarked_saidi(self) -> None:
         await self.switch("LBS-1", "open", 0)
@@ -83,7 +86,7 @@ class Figures(offices.Case):
         self.assertIsNone((await self.forecast("LBS-1", "open", 20))["reason"])
 
 
-class Shorter(offices.Case):
+class Shorter(Case):
     async def test_they_are_those_of_a_book_that_ends_there(self) -> None:
         """Random switchings in the sample's network: a book of the first days alone says what the longer one says up to them."""
         chance, rows = random.Random(8), (support.FORTNIGHT_FILES / "fortnight.csv").read_text().splitlines()[1:]

@@ -1,26 +1,56 @@
 """Forecasts against the desk: what was forecast is what it moved; the rows that are kept in step are those that are read anew,
 and the copy that follows the desk answers as it does."""
 
+import asyncio
 import os
 import random
+import time
 import unittest.mock
+from pathlib import Path
 from typing import Any
 
-import offices
 import support
 from server import diagram, forecasts, outage, reader, state
-from server.office import new_state
+from server.answers import moves_in
+from server.desk import Desk
+from server.deskcopy import DeskCopy
+from server.journal import Journal
+from server.office import Office, accepted, new_state
 from support import END, FIRST
 
 COMMANDS = int(os.environ.get("SCREEN_FORECASTS", "300"))
 Step = list[str]
 
 
+class Case(unittest.IsolatedAsyncioTestCase):
+    """A test over a desk of its own; commands are sent to that, as by another client, and told to the office."""
+
+    async def begin(self, book: Path) -> None:
+        asyncio.get_running_loop().slow_callback_duration = 60.0
+        self.desk = support.Desk(book)
+        self.addCleanup(self.desk.kill)
+        self.copy = DeskCopy(str(support.PROGRAM), book)
+        self.addAsyncCleanup(self.copy.end)
+        self.office = Office(book, new_state(book), Desk(self.desk.url), self.copy, Journal(None))
+        self.state = self.office.state
+
+    async def accept(self, kind: str, *fields: str) -> reader.Moves | None:
+        """Sends a command: what it moved, None where it is refused."""
+        told = {f"f{place}": "" if text == "-" else text for place, text in enumerate(fields, 1)}
+        command = {"kind": kind, "ref": f"T-{time.time_ns()}", **told}
+        status, reply = self.desk.post(command)
+        if status != 200:
+            return None
+        moves = moves_in(reply)
+        await self.office.learn(reply["no"], accepted(reply["no"], command), moves)
+        return moves
+
+
 def listed(moves: reader.Moves | None) -> list[list[Any]] | None:
     return None if moves is None else [list(move) for move in moves]
 
 
-class Forecasts(offices.Case):
+class Forecasts(Case):
     """Random commands, each forecast before it is sent."""
 
     def moment(self) -> int:
@@ -159,7 +189,8 @@ class Forecasts(offices.Case):
         self.assertIs(self.copy.process, process)
 
     async def test_an_outage_is_taken_back(self) -> None:
-        """Withdrawals one after the other: what they move is what was forecast, and the copy is the same one."""
+        """Withdrawals one after the other: what they move is what was forecast, and the copy is the same one. A step that is
+        refused is named, and those before it are taken back."""
         await self.begin(support.fortnight("back"))
         self.random = random.Random(5)
         for step in (steps := self.steps()):
@@ -168,10 +199,16 @@ class Forecasts(offices.Case):
         undo = [["withdraw", str(last - place), "1"] for place in range(len(steps))]
         await self.check_copy()
         process = self.copy.process
-        with self.assertRaisesRegex(state.Refused, f"step {len(undo) + 1}: the entry was withdrawn"):
-            await outage.forecast(self.office, [*undo, ["withdraw", str(last), "2"], ["withdraw", "1", "1"]])
-        with self.assertRaisesRegex(state.Refused, "step 2: somebody changed this entry: it has revision 1 by now"):
-            await outage.forecast(self.office, [undo[0], ["withdraw", str(last - 1), "9"]])
+        for refused, words in (
+            (
+                [*undo, ["withdraw", str(last), "2"], ["withdraw", "1", "1"]],
+                f"{len(undo) + 1}: the entry was withdrawn",
+            ),
+            ([undo[0], ["withdraw", str(last - 1), "9"]], "2: somebody changed this entry: it has revision 1 by now"),
+            ([steps[0], ["switch", "NOSUCH", *steps[0][2:]]], "[12]: the book knows no device NOSUCH"),
+        ):
+            with self.assertRaisesRegex(state.Refused, f"step {words}"):
+                await outage.forecast(self.office, refused)
         await self.act_on_steps(undo)
         await self.check_copy()
         await self.check_past()
@@ -186,15 +223,6 @@ class Forecasts(offices.Case):
             for step in [*self.steps(), *self.steps(), *self.steps()]:
                 await self.accept(*step)
             await self.check_copy()
-
-    async def test_what_a_step_is_refused_for(self) -> None:
-        """The step is named, and those before it are taken back."""
-        await self.begin(support.fortnight("refused"))
-        opened = ["switch", "CB-1", "open", str(FIRST + 60), "5", "CREW-3"]
-        with self.assertRaisesRegex(state.Refused, "step 2: the book knows no device NOSUCH"):
-            await outage.forecast(self.office, [opened, [*opened[:1], "NOSUCH", *opened[2:]]])
-        self.random = random.Random(6)
-        await self.check_copy()
 
     async def test_no_copy_is_told(self) -> None:
         """Without a copy nothing is guessed: the steps have no forecast, and it is said why."""

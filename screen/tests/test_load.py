@@ -10,6 +10,7 @@ import threading
 import time
 import unittest
 import urllib.parse
+import urllib.request
 from collections.abc import Callable
 from concurrent.futures import ThreadPoolExecutor
 from functools import lru_cache, partial
@@ -54,18 +55,17 @@ def processor_seconds(process: int) -> float:
 class Listener(threading.Thread):
     """A page's events, with the time at which each command was told."""
 
-    def __init__(self, port: int):
+    def __init__(self, url: str):
         super().__init__(daemon=True)
-        self.socket = socket.create_connection(("127.0.0.1", port), timeout=60)
-        request = f"GET /events HTTP/1.1\r\nHost: 127.0.0.1:{port}\r\nCookie: screen_name=ANNA\r\n\r\n"
-        self.socket.sendall(request.encode())
+        asked = urllib.request.Request(f"{url}/events", headers={"Cookie": "screen_name=ANNA"})
+        self.lines = urllib.request.urlopen(asked, timeout=60)
         self.told: dict[int, float] = {}
         self.last = 0
         self.start()
 
     def run(self) -> None:
-        with self.socket, self.socket.makefile("rb") as lines:
-            for line in lines:
+        with self.lines:
+            for line in self.lines:
                 if line.startswith(b"data: "):
                     event = json.loads(line[6:])
                     self.last = event["number"]
@@ -81,7 +81,7 @@ class Load(support.Case):
         slow.setsockopt(socket.SOL_SOCKET, socket.SO_RCVBUF, 2_048)
         slow.sendall(f"GET /events HTTP/1.1\r\nHost: 127.0.0.1:{screen.port}\r\n\r\n".encode())
         self.addCleanup(slow.close)
-        listeners = [Listener(screen.port) for _ in range(CLIENTS)]
+        listeners = [Listener(screen.url) for _ in range(CLIENTS)]
         support.until(lambda: all(each.last for each in listeners), what="all pages")
         answers: list[int] = []
         end = time.monotonic() + SECONDS
@@ -115,7 +115,7 @@ class Load(support.Case):
             pages[route] = self.seconds_of(lambda: self.assertEqual(screen.call(route)[0], 200))
             self.assertLess(pages[route], support.limit(8.0 if route == SEARCH else 1.0), route)
         first = pages.pop(SEARCH)
-        listeners = [Listener(screen.port) for _ in range(CLIENTS)]
+        listeners = [Listener(screen.url) for _ in range(CLIENTS)]
         support.until(lambda: all(each.last for each in listeners), what="all pages")
         screen.log_in("ANNA")
         device = screen.call("/api/book")[1]["devices"][40]["name"]

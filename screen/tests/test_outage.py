@@ -157,7 +157,7 @@ class Outages(Case):
         page.says(".unanswered", "2 of 5 steps are saved")
         go_on()
         page.click(".again-above")
-        page.says(".unanswered", "Saved as commands")
+        page.says(".unanswered", "Saved as changes no. ")
         self.assertEqual(self.words(), SENT)
         references = {row["reference"] for row in self.saved()}
         self.assertEqual((len(references), len({names.outage_in(each) for each in references})), (len(SENT), 1))

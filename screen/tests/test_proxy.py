@@ -9,6 +9,7 @@ import socket
 import ssl
 import subprocess
 import unittest
+from contextlib import suppress
 from pathlib import Path
 
 import browser
@@ -50,11 +51,9 @@ class Nginx:
         return process
 
     def answers(self) -> bool:
-        try:
-            socket.create_connection(("127.0.0.1", self.port), timeout=1).close()
-        except OSError:
-            return False
-        return True
+        with suppress(OSError), socket.create_connection(("127.0.0.1", self.port), timeout=1):
+            return True
+        return False
 
     def end(self) -> None:
         self.process.terminate()

@@ -11,7 +11,7 @@ import time
 import urllib.parse
 from concurrent.futures import ThreadPoolExecutor
 from contextlib import suppress
-from datetime import date
+from datetime import date, timedelta
 from pathlib import Path
 from typing import Any, cast
 
@@ -34,10 +34,9 @@ def talk(port: int, data: bytes, seconds: float = 20) -> bytes:
 
 
 def is_running(process: int) -> bool:
-    try:
+    with suppress(OSError):
         return Path(f"/proc/{process}/stat").read_text().rpartition(")")[2].split()[0] != "Z"
-    except OSError:
-        return False
+    return False
 
 
 class Commands(support.Case):
@@ -63,7 +62,7 @@ class Commands(support.Case):
         screen.post({**LIGHTHOUSE, "ref": "SCR-ANNA-C"})
         conflict = screen.post({**LIGHTHOUSE, "f5": "CREW-1", "ref": "SCR-ANNA-C"})[1]
         self.assertEqual((conflict["reply"]["refused"], conflict["reply"]["detail"]), (11, 103))
-        self.assertIn("number 103", conflict["words"])
+        self.assertIn("no. 103", conflict["words"])
 
     def test_commands_that_come_another_way(self) -> None:
         desk = self.desk()
@@ -150,8 +149,11 @@ class Figures(support.Case):
             status, shown = self.live.call(f"/api/sheet?{query}")
             self.assertEqual(status, 422, query)
             self.assertIn(words, shown["words"])
-        for query in ("section=ILL", "section=mill", "device=lbs", f"day={date.today().isoformat()}"):
+        today = date.fromisoformat(self.live.call("/api/book")[1]["today"])
+        for query in ("section=ILL", "section=mill", "device=lbs", "feeder=1&day=Today", f"day={today}"):
             self.assertGreater(self.live.call(f"/api/sheet?{query}")[1]["found"], 0, query)
+        for ago, word in enumerate(("Today", "yesterday")):
+            self.assertEqual(self.live.call(f"/api/sheet?day={word}")[1]["day"], str(today - timedelta(days=ago)))
 
     def test_what_the_desk_cannot_read_is_refused_before(self) -> None:
         for fields, words in (
@@ -210,21 +212,17 @@ class Reports(support.Case):
             made[0] += 1
             await asyncio.sleep(0.01)
             if version[0] == "none":
-                raise Away("the desk gives no answer")
+                raise Away("no answer")
             return made[0]
 
-        async def all_of(kept: apart.Kept) -> list[Any]:
-            return list(await asyncio.gather(*(kept.get() for _ in range(5)), return_exceptions=True))
-
-        async def ask() -> list[list[Any]]:
-            kept = apart.Kept(lambda: version[0], make)
-            found = []
+        async def ask() -> list[set[str]]:
+            kept, found = apart.Kept(lambda: version[0], make), []
             for version[0] in ("one", "one", "two", "none", "none", "three"):
-                found.append([str(each) for each in await all_of(kept)])
+                five = await asyncio.gather(*(kept.get() for _ in range(5)), return_exceptions=True)
+                found.append(set(map(str, five)))
             return found
 
-        away = "the desk gives no answer"
-        self.assertEqual(asyncio.run(ask()), [[each] * 5 for each in ("1", "1", "2", away, away, "5")])
+        self.assertEqual(asyncio.run(ask()), [{"1"}, {"1"}, {"2"}, {"no answer"}, {"no answer"}, {"5"}])
 
     def test_the_table_is_asked_for_once_a_command(self) -> None:
         _, proxy, screen = self.between()
@@ -275,38 +273,30 @@ class Faults(support.Case):
         self.assertEqual([command.ref for command, _ in anew], [f"SCR-ANNA-{number}" for number in range(sent)])
 
     def has_desk(self, screen: support.Screen) -> bool:
-        try:
-            screen.desk_process()
-        except (OSError, StopIteration):
-            return False
-        return bool(screen.call("/health")[1]["desk"] == "here")
-
-    def test_a_desk_that_is_away(self) -> None:
-        desk = self.desk()
-        screen = self.screen(desk=desk, login="ANNA")
-        desk.kill()
-        support.until(lambda: screen.call("/health")[1]["desk"] == "away", what="the desk away")
-        self.assertEqual(screen.call("/health")[0], 503)
-        self.assertEqual(screen.call("/api/now")[0], 200)
-        forecast = "/api/forecast?kind=switch&f1=LBS-22&f2=close&f3=1743976320&f4=5&f5=ANNA"
-        self.assertEqual(screen.call(forecast)[1]["total"], -1_440)  # the copy says so
-        self.desk(desk.book, desk.port)
-        support.until(lambda: screen.call("/health")[1]["desk"] == "here", what="the desk here")
+        with suppress(OSError, StopIteration):
+            return screen.desk_process() > 0 and bool(screen.call("/health")[1]["desk"] == "here")
+        return False
 
     def test_pages_while_the_desk_hangs(self) -> None:
-        """The copy answers in its place after a short wait, the steps of an outage among others."""
-        screen = self.screen()
+        """The copy answers in its place after a short wait, the steps of an outage among others; also where it is killed then."""
+        desk = self.desk()
+        screen = self.screen(desk=desk)
         steps = [["switch", "LBS-22", position, "1743976320", "5", "ANNA"] for position in ("close", "open")]
         forecast = f"/api/forecast?{urllib.parse.urlencode({'steps': json.dumps(steps)})}"
         self.assertEqual(screen.call(forecast)[0], 200)  # there is a copy
         before = screen.call("/api/now")[1]
-        self.stop(screen.desk_process())
+        self.stop(desk.process.pid)
         begun = time.monotonic()
         self.assertEqual(screen.call("/api/now")[1], before)
         routes = (forecast, "/api/position?device=LBS-22", "/api/changes", "/api/sheet?feeder=1", "/api/entries/35")
         for route in routes:
             self.assertEqual(screen.call(route)[0], 200, route)
         self.assertLess(time.monotonic() - begun, support.limit(6.0))
+        desk.kill()
+        support.until(lambda: screen.call("/health")[0] == 503, what="the desk away")
+        self.assertEqual(screen.call(f"/api/forecast?{urllib.parse.urlencode(LIGHTHOUSE)}")[1]["total"], -1_440)
+        self.desk(desk.book, desk.port)
+        support.until(lambda: screen.call("/health")[1]["desk"] == "here", what="the desk here")
 
     def test_the_screen_takes_its_desk_and_the_copy_with_it(self) -> None:
         screen = self.screen()

@@ -4,7 +4,7 @@ import re
 import time
 import unittest.mock
 import urllib.parse
-from datetime import datetime, timedelta
+from datetime import datetime
 from typing import Any
 
 import browser
@@ -55,7 +55,7 @@ class Shift(support.Case):
         self.assertEqual([row["by"] for row in one], ["LOG-1"])
         self.assertEqual([row["result"].split()[0] for row in other], ["refused:", "refused:", "saved:"])
         self.assertIn("LBS-1 open at ", one[0]["words"])
-        self.assertEqual(one[0]["result"], f"saved: command {opened['reply']['no']}, entry {opened['entry']}")
+        self.assertEqual(one[0]["result"], f"saved: change no. {opened['reply']['no']}, entry {opened['entry']}")
         self.assertEqual([row["result"].split()[1] for row in other[:2]], ["1", "5"])
         self.assertRegex(one[0]["at"], r"\+0[12]:00$")
         later = int(datetime.fromisoformat(one[0]["at"]).timestamp()) + 1
@@ -137,14 +137,6 @@ class Shift(support.Case):
         self.send("BACK", **life["undo"]["command"])
         joined = self.send("BACK", kind="connect", f1=str(time.time_ns() % 10**9), f2="MILL", f3="0", f4="")
         self.assertIsNone(joined["undo"])
-
-    def test_a_feeder_and_a_day_in_words(self) -> None:
-        entry = self.switch("DAY-1", "open")["entry"]
-        today = datetime.fromisoformat(ZONE.text_of(int(time.time()))).date()
-        found = self.get("/api/sheet", feeder="1", day="Today")
-        self.assertEqual((found["rows"][0]["no"], found["day"]), (entry, today.isoformat()))
-        self.assertEqual(self.get("/api/sheet", day="yesterday", crew="day-1")["found"], 0)
-        self.assertEqual(self.get("/api/sheet", day="yesterday")["day"], (today - timedelta(days=1)).isoformat())
 
 
 class Pages(support.Case):
@@ -232,12 +224,12 @@ class Stops(support.Case):
         again = self.screen(desk=desk)
         rows = again.call("/api/log")[1]
         self.assertEqual([row["by"] for row in rows], ["another program", "ANNA"])
-        self.assertEqual(rows[0]["result"], f"saved: command {support.LAST_OF_SMALL + 2}")
+        self.assertEqual(rows[0]["result"], f"saved: change no. {support.LAST_OF_SMALL + 2}")
         self.assertIn("LBS-1 close at ", rows[0]["words"])
         shown = again.call("/api/changes")[1]
         self.assertEqual([row["no"] for row in shown["entered"]], [1, 2])
         ended = [(row["entry"], row["sections"], row["customers"]) for row in shown["ended"]]
-        self.assertEqual((shown["open"], ended), ([], [(1, ["MILL"], 2)]))
+        self.assertEqual((shown["open"], ended), ([], [(1, [{"section": "MILL", "customers": 2}], 2)]))
 
     def test_a_period_that_is_over(self) -> None:
         """It is looked at, told and handed over at its last second; that today is no day of it is said."""

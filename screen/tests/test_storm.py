@@ -134,14 +134,6 @@ class Pages(test_browser.Case):
         page.at("New switching")
         self.assertEqual(page.value("Device"), "CB-3")
 
-    def test_the_slider_says_its_time(self) -> None:
-        page = self.opened("/")
-        slider = page.find("[type=range]")
-        said = slider.get_attribute("aria-valuetext")
-        self.assertEqual(said[:10], time.strftime("%Y-%m-%d", time.gmtime(time.time() + 3_600)))
-        slider.send_keys(Keys.PAGE_DOWN)
-        page.wait(lambda: slider.get_attribute("aria-valuetext")[:10] < said[:10], "the day before")
-
     def test_three_questions_by_what_the_page_says(self) -> None:
         """Who is out on feeder 3, what happened yesterday, hand over: by words that stand there, three taps each at most."""
         self.live.switch("open", "LBS-31", ago=86_400)
@@ -154,6 +146,8 @@ class Pages(test_browser.Case):
             page.fill("Feeder", "3")
             page.says("main h2", "1 of 2 outages")
             self.assertIn("LBS-31", page.text("table.outages"))
+            for name in ("feeder", "since"):
+                self.assertTrue(page.find(f"tbody [data-label={name}]").is_displayed(), name)
             page.tap_on("Switching log")
             page.at("Switching log")
             for words in ["Search", "Yesterday"] if narrow else ["Yesterday"]:
