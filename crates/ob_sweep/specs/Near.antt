@@ -21,9 +21,9 @@ ClosesWithin net has e = e.pos ≡ Closed → KeepsTo has (device_at net.devices
 
 -- the set has the device's ends and not GRID, and no device that is closed after the first entries, or that one of the
 -- steps closes, joins a node of it to one outside but GRID
-pub record AreNear (net : Network) (first steps : List Entry) (device : ℕ) (has : ℕ → Bool) : Type 0 where
-  pub first : IsApart net (entered net first) has
-  pub steps : All (ClosesWithin net has) steps
+pub record AreNear (net : Network) (base acting : List Entry) (device : ℕ) (has : ℕ → Bool) : Type 0 where
+  pub first : IsApart net (entered net base) has
+  pub steps : All (ClosesWithin net has) acting
   pub ends : HasEnds has (device_at net.devices device)
 
 -- the runs of a node after a change: where the node is in the set the old ones with those of the window in their place,

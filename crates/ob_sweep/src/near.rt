@@ -31,24 +31,20 @@ fn close_each(positions: &mut [Pos], steps: &[Entry])
 /// Finds the nodes whose supply switching a device can alter while the steps act, which come after
 /// the entries before `place` in the log's order.
 pub fn nodes_near(
-    net: &mut Net,
+    net: &Net,
     sheet: &Sheet,
     place: usize,
     steps: &[Entry],
     device: u16,
 ) -> Result<Vec<bool>, Stop>
     requires place { place ≤ length (in_order sheet.now.entries) }
-    requires sheet_devices { NameDevices (length net.old.network.devices) sheet.now.entries }
-    requires devices { NameDevices (length net.old.network.devices) steps.now }
-    requires device { device < length net.old.network.devices }
-    ensures count { IfOk result (λ near. length near.items ≡ length net.old.network.nodes) }
-    ensures near { IfOk result (λ near. AreNear net.old.network
+    requires sheet_devices { NameDevices (length net.now.network.devices) sheet.now.entries }
+    requires devices { NameDevices (length net.now.network.devices) steps.now }
+    requires device { device < length net.now.network.devices }
+    ensures count { IfOk result (λ near. length near.items ≡ length net.now.network.nodes) }
+    ensures near { IfOk result (λ near. AreNear net.now.network
         (take place (in_order sheet.now.entries)) steps.now device (is_reached near.items)) }
     ensures err { IfErr result (λ stop. stop ≡ out_of_memory) }
-    ensures network { net.new.network ≡ net.old.network }
-    ensures searches { net.new.searches ≡ net.old.searches }
-    ensures node_room { net.new.node_room ≡ net.old.node_room }
-    ensures device_room { net.new.device_room ≡ net.old.device_room }
 {
     let mut closed = sheet.entered_before(place, net)?;
     close_each(&mut closed, steps);
