@@ -2,7 +2,9 @@
 use Rattle.std.proofs.Common.{◌≡◌, ◌≢◌, ◌-◌, ◌+◌, ◌<◌, ◌≤◌, ℕ, suc, zero, Bool, true, false, not, cond, List, [], ◌∷◌, ◌++◌, Some, length, take, drop, refl, sym, ◌∙◌, ap, arith, subst, inl, inr, IsTrue, false≢true}
 use Rattle.std.specs.List.{All, AllPairs, AllByRecursion, filter}
 use Rattle.std.proofs.lemmas.Bool.{cases_Bool, cond-true, cond-false}
-use Rattle.std.proofs.lemmas.List.Elements.{All-filter, All-from_recursion, recursion_from_All}
+use Rattle.std.proofs.lemmas.List.{length-append}
+use Rattle.std.proofs.lemmas.List.Elements.{All-drop, All-filter, All-from_recursion, All-take, recursion_from_All}
+use Rattle.std.proofs.Math.Seq.{get_or-append_seam}
 use Rattle.ob_base.specs.declared.Pos.TheVariants.{Closed}
 use Rattle.ob_net.specs.Apart.{HasEnds, KeepsTo, device_at, is_at}
 use Rattle.ob_net.specs.Network.{Network}
@@ -28,7 +30,8 @@ use Rattle.ob_sweep.specs.declared.window.Window.{Window}
 use Rattle.ob_sweep.proofs.Framed.{AreFramed, are_parts, first_to_last, in_order_left, inside_after, kept_after, named_mid, new_device, of_the_device, respliced_runs, rise_after, spliced_runs}
 use Rattle.ob_sweep.proofs.Near.{Keep, inside_without, keep_all, keep_first, keep_runs, outside_without}
 use Rattle.ob_sweep.proofs.Parted.{OfNew, OfOld, each_as, each_changed, each_filter, each_join, each_left, each_right}
-use Rattle.ob_sweep.proofs.Planned.{AreReady, before_it, few, framed_so, in_it, ready}
+use Rattle.ob_sweep.proofs.Planned.{AreReady, before_it, between, few, framed_so, in_it, ready}
+use Rattle.ob_sweep.proofs.Preceding.{old_named}
 use Rattle.ob_sweep.proofs.Related.{at_section, runs_of_node}
 use Rattle.ob_sweep.proofs.Replanned.{each_kept}
 use Rattle.ob_sweep.proofs.SameEnd.{IsOfDevice, gone_other, put_other}
@@ -197,6 +200,9 @@ module _ (entries : List Entry) (change : SheetChange) (lo end : ℕ) (numbered 
         named = All-filter q (λ e. e.device < devices) all_steps r.named;
       }
 
+  pub steps_named : (devices : ℕ) → NameDevices devices (with_change change entries) → NameDevices devices all_steps
+  steps_named devices names = (ready entries change lo end numbered ok some lie lie_changed w is devices names).named
+
   pub some_few : (q : Entry → Bool) → length (filter q all_steps) ≤ count_within change entries (first_changed change) (last_changed change entries (end - 1))
   some_few q = omega (arith, fewer q all_steps, few entries change lo end numbered ok some lie lie_changed w is)
 
@@ -213,3 +219,18 @@ module _ (entries : List Entry) (change : SheetChange) (lo end : ℕ) (numbered 
 
     pub near_of_node : (v : ℕ) → IsSection net v → AreOfNode v (spliced_near near w.first w.end old window v)
     near_of_node v section = subst (AreOfNode v) (sym (near_news v section)) (runs_of_node v (history net (with_change change entries) v) lo end)
+
+-- the devices of a part of the entries in order, and of the changed entry
+pub part_named : (devices : ℕ) (entries : List Entry) (from to : ℕ) → NameDevices devices entries → NameDevices devices (between from to (in_order entries))
+part_named devices entries from to names =
+    let P : Entry → Type 0 = λ e. e.device < devices in
+    All-take P (to - from) (drop from (in_order entries))
+    (All-drop P from (in_order entries) (each_kept entries P (All-filter (λ e. e.kept) P entries names)))
+
+pub device_named : (devices : ℕ) (entries : List Entry) (change : SheetChange) → CanChange change entries → NameDevices devices entries
+    → NameDevices devices (with_change change entries) → device_of change < devices
+device_named devices entries (Entered new) ok names later =
+    let l : length entries < length (entries ++ new ∷ []) = omega (arith, length-append entries (new ∷ [])) in
+    subst (λ (e : Entry). e.device < devices) (get_or-append_seam entries new [] new) (later (length entries) new l)
+device_named devices entries (Corrected old new) ok names later = old_named devices entries old names ok.0.on
+device_named devices entries (Withdrawn old) ok names later = old_named devices entries old names ok.on
