@@ -74,7 +74,7 @@ module _ (has fed : ℕ → Bool) (grid : has GRID ≡ false) (fed_grid : fed GR
 module _ (ds : List Device) (ps qs : List Pos) (has : ℕ → Bool) (v : ℕ) (grid : has GRID ≡ false)
     (keeps : KeepTo has ds ps (length ds)) (alike : AreAlikeFor has v ds ps qs) where
   abbrev fed : ℕ → Bool
-  fed w = is_connected (closed_among ds qs) w GRID
+  fed = λ w. is_connected (closed_among ds qs) w GRID
 
   fed_alike : (k : ℕ) → k < length ds → IsClosedAt ps k → is_at has (device_at ds k) ≡ has v → fed (device_at ds k).a ≡ fed (device_at ds k).b
   fed_alike k l c b =

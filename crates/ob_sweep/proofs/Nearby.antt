@@ -30,7 +30,7 @@ use Rattle.ob_sweep.specs.declared.window.Window.{Window}
 use Rattle.ob_sweep.proofs.Framed.{AreFramed, are_parts, first_to_last, in_order_left, inside_after, kept_after, named_mid, new_device, of_the_device, respliced_runs, rise_after, spliced_runs}
 use Rattle.ob_sweep.proofs.Near.{Keep, inside_without, keep_all, keep_first, keep_runs, outside_without}
 use Rattle.ob_sweep.proofs.Parted.{OfNew, OfOld, each_as, each_changed, each_filter, each_join, each_left, each_right}
-use Rattle.ob_sweep.proofs.Planned.{AreReady, before_it, between, few, framed_so, in_it, ready}
+use Rattle.ob_sweep.proofs.Planned.{AreReady, between, few, framed_so, ready}
 use Rattle.ob_sweep.proofs.Preceding.{old_named}
 use Rattle.ob_sweep.proofs.Related.{at_section, runs_of_node}
 use Rattle.ob_sweep.proofs.Replanned.{each_kept}
@@ -172,10 +172,10 @@ module _ (entries : List Entry) (change : SheetChange) (lo end : ℕ) (numbered 
 module _ (entries : List Entry) (change : SheetChange) (lo end : ℕ) (numbered : AreNumbered entries) (ok : CanChange change entries)
     (some : lo < end) (lie : LieBetween lo end entries) (lie_changed : LieBetween lo end (with_change change entries)) (w : Window) (is : IsWindow change entries end w) where
   abbrev first_ones : List Entry
-  first_ones = before_it entries change lo end numbered ok some lie lie_changed w is
+  first_ones = take w.from (in_order entries)
 
   abbrev old_steps : List Entry
-  old_steps = in_it entries change lo end numbered ok some lie lie_changed w is
+  old_steps = between w.from w.to (in_order entries)
 
   abbrev all_steps : List Entry
   all_steps = changed_order change old_steps
