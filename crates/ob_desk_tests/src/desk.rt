@@ -1,9 +1,8 @@
 //! A desk (the book's HTTP server) over a store in memory, its answers to streams, and the trials
 //! that use it.
-use crate::log::Log;
-use crate::streams::{WHOLE, Ways};
+use crate::streams::Ways;
 use ob_base::Fault;
-use ob_desk::{Listener, Unserved, run_serve, serve_stream};
+use ob_desk::{FaultLog, Listener, Unserved, run_serve, serve_stream};
 use ob_harness::{Sink, Source};
 use ob_http_requests::Request;
 use ob_http_routes::{ReplyText, Routes, answer};
@@ -26,6 +25,24 @@ impl Heard {
     /// Answers whether the stream ended this way and these bytes were written.
     pub fn is(&self, end: Result<u32, Fault>, bytes: &[u8]) -> bool {
         self.end == end && self.bytes.as_slice() == bytes
+    }
+}
+
+/// The faults that ended streams of a listener: the last one, and their number.
+#[derive(Drop)]
+pub struct Log {
+    pub last: Option<Fault>,
+    pub count: u32,
+}
+
+impl FaultLog for Log {
+    ghost use Rattle.std.specs.Prelude.{⊤};
+
+    ghost tells = { λ _ _ _. ⊤ };
+
+    fn tell(&mut self, fault: Fault) {
+        self.last = Some(fault);
+        self.count = self.count.saturating_add(1);
     }
 }
 
@@ -121,20 +138,15 @@ impl<S: Alter, T: Timeline> Desk for Keeper<S, T> {
     }
 }
 
-// Serves a stream of these bytes in this way.
-fn hears<D: Desk>(alloc: Global, desk: &mut D, text: &[u8], way: &Ways) -> Heard {
+/// Serves a stream of these bytes in this way.
+pub fn hears<D: Desk>(alloc: Global, desk: &mut D, text: &[u8], way: &Ways) -> Heard {
     let sink = Sink::new(alloc, way.room, way.writes);
     desk.hears(alloc, Source::new(text, way.reads), sink)
 }
 
-/// Serves a stream of these bytes.
-pub fn told<D: Desk>(alloc: Global, desk: &mut D, text: &[u8]) -> Heard {
-    hears(alloc, desk, text, &WHOLE)
-}
-
 /// A stream and its way; the expected end, written bytes and number of commands that the book then
 /// has, or None if there is no book.
-#[derive(Drop)]
+#[derive(Clone, Copy)]
 pub struct Stream<'b> {
     pub text: &'b [u8],
     pub way: Ways,
@@ -162,11 +174,6 @@ pub type Tried = Result<(), AllocError>;
 /// A trial of a desk.
 pub trait Trial {
     fn run<A: Abort, D: Desk>(&self, rt: &A, alloc: Global, desk: &mut D) -> Tried;
-}
-
-/// Runs a trial with a desk over a new book.
-pub fn over_a_book<C: Trial>(rt: &impl Abort, alloc: Global, trial: &C) -> Result<(), AllocError> {
-    over_a_store(rt, alloc, true, trial)
 }
 
 /// Runs a trial with a desk over a store in memory, with a new book or without one.

@@ -1,8 +1,8 @@
 //! Tests of the worked exchange: whole, in pieces, cut, and with readers and writers that fail.
-use crate::desk::{Desk, Stream, Trial, Tried, ends_so, over_a_book, told};
-use crate::script::{Ask, Reply, Row, are_answered};
+use crate::desk::{Desk, Stream, Trial, Tried, ends_so, hears, over_a_store};
+use crate::script::{bytes_asked, bytes_wanted};
 use crate::streams::{WHOLE, Ways, pieces};
-use crate::texts::{FIRST, STORM, json, post};
+use crate::texts::{FIRST, STORM};
 use ob_base::Fault;
 use ob_harness::{FULL, JOLTING, Way};
 use std::alloc::{AllocError, Global};
@@ -10,7 +10,7 @@ use std::io::ErrorKind;
 use std::process::Abort;
 
 /// Streams, one after the other, and the number of commands that the book then has.
-#[derive(Drop)]
+#[derive(Clone, Copy)]
 pub struct Streams<'r> {
     pub rows: &'r [Stream<'r>],
     pub commands: u32,
@@ -28,16 +28,14 @@ impl Trial for Streams<'_> {
     }
 }
 
-// The exchange in a way.
-fn exchange(way: Ways) -> Stream<'static> {
-    Stream {
-        text: STORM,
-        way,
-        end: Ok(1),
-        written: FIRST,
-        commands: Some(1),
-    }
-}
+// The exchange.
+const EXCHANGE: Stream<'static> = Stream {
+    text: STORM,
+    way: WHOLE,
+    end: Ok(1),
+    written: FIRST,
+    commands: Some(1),
+};
 
 // Byte by byte; the reader and the writer are interrupted before each byte.
 const JOLTED: Ways = Ways {
@@ -46,29 +44,56 @@ const JOLTED: Ways = Ways {
     ..WHOLE
 };
 
+// All bytes at once, and then interruptions without end.
+const STUCK: Ways = Ways {
+    reads: Way {
+        end: Some(ErrorKind::Interrupted),
+        ..FULL
+    },
+    ..WHOLE
+};
+
+// A stream that is interrupted without end before its first byte.
+const NOTHING: Stream<'static> = Stream {
+    text: b"",
+    way: STUCK,
+    end: Err(Fault::Input),
+    written: b"",
+    commands: Some(0),
+};
+
+// Each over a new book.
 #[test]
 fn whole_and_in_pieces(rt: HostRuntime) -> Result<(), AllocError> {
     for step in [1, 2, 64, 115, 4_096] {
-        let rows = &[exchange(pieces(step))];
-        over_a_book(&rt, rt.alloc(), &Streams { rows, commands: 1 })?;
+        let way = pieces(step);
+        let rows = &[Stream { way, ..EXCHANGE }];
+        over_a_store(&rt, rt.alloc(), true, &Streams { rows, commands: 1 })?;
     }
-    let rows = &[exchange(JOLTED)];
-    over_a_book(&rt, rt.alloc(), &Streams { rows, commands: 1 })
+    let way = JOLTED;
+    let rows = &[Stream { way, ..EXCHANGE }];
+    over_a_store(&rt, rt.alloc(), true, &Streams { rows, commands: 1 })
 }
 
-// The exchange twice in one stream, and once more in another.
-const TWICE: &[Row] = &[
-    (
-        Ask::Many((b"", STORM, 2, b"")),
-        Ok(2),
-        Reply::Many((b"", FIRST, 2, b"")),
-    ),
-    (Ask::Text(STORM), Ok(1), Reply::Text(FIRST)),
-];
-
 #[test]
-fn twice(rt: HostRuntime) -> Result<(), AllocError> {
-    are_answered(&rt, rt.alloc(), TWICE, 1)
+fn readers_interrupted_for_ever(rt: HostRuntime) -> Result<(), AllocError> {
+    let rows = &[
+        NOTHING,
+        Stream {
+            text: &STORM[..20],
+            ..NOTHING
+        },
+        Stream {
+            text: &STORM[..80],
+            ..NOTHING
+        },
+        Stream {
+            way: STUCK,
+            end: Err(Fault::Input),
+            ..EXCHANGE
+        },
+    ];
+    over_a_store(&rt, rt.alloc(), true, &Streams { rows, commands: 1 })
 }
 
 // Writers that fail after each number of bytes of a reply of 90, and two that take no further byte.
@@ -110,26 +135,28 @@ fn breaks_off<D: Desk>(
         commands: Some(no),
     };
     ends_so(rt, alloc, desk, room, &broken);
-    assert!(rt; told(alloc, desk, &request).is(Ok(1), &wanted));
+    assert!(rt; hears(alloc, desk, &request, &WHOLE).is(Ok(1), &wanted));
     assert!(rt; desk.commands() == Some(no));
     Ok(())
 }
 
 // A request that adds the bus of a number.
 fn bus(alloc: Global, no: u32) -> Result<Vec<u8>, AllocError> {
-    let body = format!(in alloc; "{{\"kind\":\"bus\",\"ref\":\"R{no}\",\"f1\":\"B{no}\"}}")?;
-    post(alloc, "/commands", body.as_str())
+    let asked = format!(in alloc;
+        "/commands {{\"kind\":\"bus\",\"ref\":\"R{no}\",\"f1\":\"B{no}\"}}"
+    )?;
+    bytes_asked(alloc, "POST", asked.as_str())
 }
 
 // The reply to the command of a number that moves nothing.
 fn accepted(alloc: Global, no: u32) -> Result<Vec<u8>, AllocError> {
-    let body = format!(in alloc; "{{\"moved\":[],\"no\":{no}}}")?;
-    json(alloc, "200 OK", body.as_str())
+    let wanted = format!(in alloc; "200 {{\"moved\":[],\"no\":{no}}}")?;
+    bytes_wanted(alloc, wanted.as_str())
 }
 
 #[test]
 fn writers_that_fail(rt: HostRuntime) -> Result<(), AllocError> {
-    over_a_book(&rt, rt.alloc(), &Writers)
+    over_a_store(&rt, rt.alloc(), true, &Writers)
 }
 
 // The exchange followed by another cause under the reference R2, and both replies.
@@ -143,64 +170,15 @@ const REPLIES: &'static [u8] = b"\
 HTTP/1.1 200 OK\r\nContent-Type: application/json\r\nContent-Length: 19\r\n\r\n{\"moved\":[],\"no\":1}\
 HTTP/1.1 200 OK\r\nContent-Type: application/json\r\nContent-Length: 19\r\n\r\n{\"moved\":[],\"no\":2}";
 
-// The number of requests of the two that are whole in this many bytes of both.
-fn whole_in(count: usize, first: &[u8], both: &[u8]) -> u32 {
-    if count < first.len() {
-        0
-    } else if count < both.len() {
-        1
+// The number of the two requests that are whole in this many bytes of both, and their replies.
+fn whole_in(count: usize) -> (u32, &'static [u8]) {
+    if count < STORM.len() {
+        (0, b"")
+    } else if count < BOTH.len() {
+        (1, FIRST)
     } else {
-        2
+        (2, REPLIES)
     }
-}
-
-// The replies to this many of the two requests.
-fn replies(whole: u32) -> &'static [u8] {
-    match whole {
-        0 => b"",
-        1 => FIRST,
-        _ => REPLIES,
-    }
-}
-
-// Fronts of the two requests in a way, from `first` to `last` bytes long. Each ends in a fault, and
-// only the whole requests have been applied. A stream without a byte ends without a fault.
-#[derive(Drop)]
-struct Fronts {
-    first: usize,
-    last: usize,
-    way: Ways,
-    commands: u32,
-}
-
-impl Trial for Fronts {
-    fn run<A: Abort, D: Desk>(&self, rt: &A, alloc: Global, desk: &mut D) -> Tried {
-        for count in self.first..=self.last {
-            let whole = whole_in(count, STORM, BOTH);
-            let stream = Stream {
-                text: &BOTH[..count.min(BOTH.len())],
-                way: self.way,
-                end: Err(Fault::Input),
-                written: replies(whole),
-                commands: Some(whole),
-            };
-            ends_so(rt, alloc, desk, count, &stream);
-        }
-        assert!(rt; told(alloc, desk, b"").is(Ok(0), b""));
-        assert!(rt; desk.stands_with(self.commands));
-        Ok(())
-    }
-}
-
-#[test]
-fn cut_anywhere(rt: HostRuntime) -> Result<(), AllocError> {
-    let fronts = Fronts {
-        first: 1,
-        last: STORM.len() - 1,
-        way: pieces(9),
-        commands: 0,
-    };
-    over_a_book(&rt, rt.alloc(), &fronts)
 }
 
 // All bytes at once, and then a failure.
@@ -209,45 +187,43 @@ const FAILING: Ways = Ways {
     ..WHOLE
 };
 
-#[test]
-fn readers_that_fail(rt: HostRuntime) -> Result<(), AllocError> {
-    let fronts = Fronts {
-        first: 0,
-        last: BOTH.len(),
-        way: FAILING,
-        commands: 2,
-    };
-    over_a_book(&rt, rt.alloc(), &fronts)
-}
+// Fronts of the two requests, in pieces and then the end, or by a reader that then fails. Only the
+// whole requests have been applied; a front that ends within a request ends in a fault.
+struct Fronts;
 
-// All bytes at once, and then interruptions without end.
-const STUCK: Ways = Ways {
-    reads: Way {
-        end: Some(ErrorKind::Interrupted),
-        ..FULL
-    },
-    ..WHOLE
-};
-
-// A stream that is interrupted without end after these bytes: it ends in a fault, these replies are
-// written, and the book has this number of commands.
-fn stuck(text: &'static [u8], written: &'static [u8], commands: u32) -> Stream<'static> {
-    Stream {
-        text,
-        way: STUCK,
-        end: Err(Fault::Input),
-        written,
-        commands: Some(commands),
+impl Trial for Fronts {
+    fn run<A: Abort, D: Desk>(&self, rt: &A, alloc: Global, desk: &mut D) -> Tried {
+        for count in 0..=BOTH.len() {
+            let (whole, written) = whole_in(count);
+            let is_cut = count != 0 && count != STORM.len() && count != BOTH.len();
+            let failing = Stream {
+                text: &BOTH[..count],
+                way: FAILING,
+                end: Err(Fault::Input),
+                written,
+                commands: Some(whole),
+            };
+            let end = if is_cut { Err(Fault::Input) } else { Ok(whole) };
+            let way = pieces(9);
+            ends_so(
+                rt,
+                alloc,
+                desk,
+                count,
+                &Stream {
+                    way,
+                    end,
+                    ..failing
+                },
+            );
+            ends_so(rt, alloc, desk, count, &failing);
+        }
+        assert!(rt; desk.stands_with(2));
+        Ok(())
     }
 }
 
 #[test]
-fn readers_interrupted_for_ever(rt: HostRuntime) -> Result<(), AllocError> {
-    let rows = &[
-        stuck(b"", b"", 0),
-        stuck(&STORM[..20], b"", 0),
-        stuck(&STORM[..80], b"", 0),
-        stuck(STORM, FIRST, 1),
-    ];
-    over_a_book(&rt, rt.alloc(), &Streams { rows, commands: 1 })
+fn readers_that_fail(rt: HostRuntime) -> Result<(), AllocError> {
+    over_a_store(&rt, rt.alloc(), true, &Fronts)
 }

@@ -1,60 +1,70 @@
 //! Tests of heads that are refused, streams that end, and the interim reply.
-use crate::desk::{Stream, over_a_book};
+use crate::desk::{Desk, Stream, Trial, Tried, hears, over_a_store};
 use crate::exchange::Streams;
-use crate::script::{Ask, Reply, Row, are_answered};
 use crate::streams::{WHOLE, Ways};
-use crate::texts::{FIRST, LAST_NOTHING, STORM};
+use crate::texts::{LAST_NOTHING, Many, many};
 use ob_base::Fault;
-use std::alloc::AllocError;
+use std::alloc::{AllocError, Global};
+use std::process::Abort;
 
-const BAD_REQUEST: &'static [u8] =
-    b"HTTP/1.1 400 Bad Request\r\nContent-Length: 0\r\nConnection: close\r\n\r\n";
+// Streams on a new book, ` => `, the number of replies or the name of the fault, and the written
+// bytes, with `|` for CRLF and `&` for the request that enters a cause. First come requests after
+// which the stream ends, so that this other request isn't read: those that are refused because of
+// their heads, one for each status (other heads are those of `requests.rt`), and two that are the
+// last. Then a client that waits for the interim reply and is cut off, which leaves no command, and
+// one that sends its whole body; a stream that goes on after two refusals; and a command that is
+// sent twice in one stream, and once more in another.
+const STREAMS: &'static str =
+    r#"GET /totals HTTP/1.1||& => 1 HTTP/1.1 400 Bad Request|Content-Length: 0|Connection: close||
+POST /commands HTTP/1.1|Host: a|Transfer-Encoding: chunked||0||& => 1 HTTP/1.1 501 Not Implemented|Content-Length: 0|Connection: close||
+POST /commands HTTP/1.1|Host: a||& => 1 HTTP/1.1 411 Length Required|Content-Length: 0|Connection: close||
+POST /commands HTTP/1.1|Host: a|Content-Length: 4194305||& => 1 HTTP/1.1 413 Payload Too Large|Content-Length: 0|Connection: close||
+DELETE /totals HTTP/1.1|Host: a||& => 1 HTTP/1.1 501 Not Implemented|Content-Length: 0|Connection: close||
+GET /totals HTTP/1.1|Host: a|Connection: close||& => 1 HTTP/1.1 200 OK|Content-Type: application/json|Content-Length: 43|Connection: close||{"cause":[],"day":[],"feeder":[],"total":0}
+GET /totals HTTP/1.0||& => 1 HTTP/1.1 200 OK|Content-Type: application/json|Content-Length: 43|Connection: close||{"cause":[],"day":[],"feeder":[],"total":0}
+POST /commands HTTP/1.1|Host: localhost|Content-Length: 49|Expect: 100-Continue||{"kind":"cause","ref":"R1","f1":"3","f2":"STORM" => Input HTTP/1.1 100 Continue||
+GET /commands/1 HTTP/1.1|Host: a|| => 1 HTTP/1.1 404 Not Found|Content-Length: 0||
+POST /commands HTTP/1.1|Host: localhost|Content-Length: 49|Expect: 100-Continue||{"kind":"cause","ref":"R1","f1":"3","f2":"STORM"} => 1 HTTP/1.1 100 Continue||HTTP/1.1 200 OK|Content-Type: application/json|Content-Length: 19||{"moved":[],"no":1}
+POST /totals HTTP/1.1|Host: a|Content-Length: 0||GET /nothing HTTP/1.1|Host: a||POST /commands HTTP/1.1|Host: localhost|Content-Length: 38||{"kind":"bus","ref":"R2","f1":"BUS-A"} => 3 HTTP/1.1 405 Method Not Allowed|Content-Length: 0|Allow: GET||HTTP/1.1 404 Not Found|Content-Length: 0||HTTP/1.1 200 OK|Content-Type: application/json|Content-Length: 19||{"moved":[],"no":2}
+POST /commands HTTP/1.1|Host: localhost|Content-Length: 48||{"kind":"cause","ref":"R3","f1":"5","f2":"HAIL"}POST /commands HTTP/1.1|Host: localhost|Content-Length: 48||{"kind":"cause","ref":"R3","f1":"5","f2":"HAIL"} => 2 HTTP/1.1 200 OK|Content-Type: application/json|Content-Length: 19||{"moved":[],"no":3}HTTP/1.1 200 OK|Content-Type: application/json|Content-Length: 19||{"moved":[],"no":3}
+POST /commands HTTP/1.1|Host: localhost|Content-Length: 48||{"kind":"cause","ref":"R3","f1":"5","f2":"HAIL"} => 1 HTTP/1.1 200 OK|Content-Type: application/json|Content-Length: 19||{"moved":[],"no":3}
+"#;
 
-const NOT_IMPLEMENTED: &'static [u8] =
-    b"HTTP/1.1 501 Not Implemented\r\nContent-Length: 0\r\nConnection: close\r\n\r\n";
+// The request that enters a cause.
+const STORM: &'static str =
+    r#"POST /commands HTTP/1.1|Host: localhost|Content-Length: 49||{"kind":"cause","ref":"R1","f1":"3","f2":"STORM"}"#;
 
-const LENGTH_REQUIRED: &'static [u8] =
-    b"HTTP/1.1 411 Length Required\r\nContent-Length: 0\r\nConnection: close\r\n\r\n";
+struct Heads;
 
-const PAYLOAD_TOO_LARGE: &'static [u8] =
-    b"HTTP/1.1 413 Payload Too Large\r\nContent-Length: 0\r\nConnection: close\r\n\r\n";
+impl Trial for Heads {
+    fn run<A: Abort, D: Desk>(&self, rt: &A, alloc: Global, desk: &mut D) -> Tried {
+        for line in STREAMS.lines() {
+            let line = line.replace(alloc, "&", STORM)?;
+            let line = line.replace(alloc, "|", "\r\n")?;
+            let (asked, wanted) = line.split_once(" => ").unwrap_or(("", ""));
+            let (end, written) = wanted.split_once(" ").unwrap_or((wanted, ""));
+            let heard = hears(alloc, desk, asked.as_bytes(), &WHOLE);
+            let ends_so = match heard.end {
+                Ok(count) => end.parse().ok() == Some(count),
+                Err(fault) => fault.name() == end,
+            };
+            assert!(rt;
+                ends_so && heard.bytes.as_slice() == written.as_bytes(),
+                "{line}"
+            );
+        }
+        assert!(rt; desk.stands_with(3));
+        Ok(())
+    }
+}
+
+#[test]
+fn heads_and_ends_of_streams(rt: HostRuntime) -> Result<(), AllocError> {
+    over_a_store(&rt, rt.alloc(), true, &Heads)
+}
 
 const FIELDS_TOO_LARGE: &'static [u8] =
     b"HTTP/1.1 431 Request Header Fields Too Large\r\nContent-Length: 0\r\nConnection: close\r\n\r\n";
-
-// A request after which the stream ends, although another one follows; and its reply.
-fn last(request: &'static [u8], reply: &'static [u8]) -> Row {
-    (Ask::Last(request), Ok(1), Reply::Text(reply))
-}
-
-// Requests that are refused because of their heads, which ends the stream: one for each status, the
-// last with a line whose first 16,384 bytes have no end. Other heads are those of
-// `requests/heads.rt`.
-#[test]
-fn heads_that_are_refused(rt: HostRuntime) -> Result<(), AllocError> {
-    let chunked =
-        b"POST /commands HTTP/1.1\r\nHost: a\r\nTransfer-Encoding: chunked\r\n\r\n0\r\n\r\n";
-    let large = b"POST /commands HTTP/1.1\r\nHost: a\r\nContent-Length: 4194305\r\n\r\n";
-    let rows = &[
-        last(b"GET /totals HTTP/1.1\r\n\r\n", BAD_REQUEST),
-        last(chunked, NOT_IMPLEMENTED),
-        last(
-            b"POST /commands HTTP/1.1\r\nHost: a\r\n\r\n",
-            LENGTH_REQUIRED,
-        ),
-        last(large, PAYLOAD_TOO_LARGE),
-        last(
-            b"DELETE /totals HTTP/1.1\r\nHost: a\r\n\r\n",
-            NOT_IMPLEMENTED,
-        ),
-        (
-            Ask::Many((b"GET /", b"a", 16_379, b"")),
-            Ok(1),
-            Reply::Text(FIELDS_TOO_LARGE),
-        ),
-    ];
-    are_answered(&rt, rt.alloc(), rows, 0)
-}
 
 const TOTALS: &'static [u8] = b"GET /totals HTTP/1.1\r\nHost: a\r\n\r\n";
 
@@ -63,91 +73,58 @@ const NOTHING: &'static [u8] = b"\
 HTTP/1.1 200 OK\r\nContent-Type: application/json\r\nContent-Length: 43\r\n\r\n\
 {\"cause\":[],\"day\":[],\"feeder\":[],\"total\":0}";
 
-// The 1,000th reply is the last, and the desk doesn't read what follows it.
-const THOUSAND: &[Row] = &[(
-    Ask::Many((b"", TOTALS, 1_001, b"")),
-    Ok(1_000),
-    Reply::Many((b"", NOTHING, 999, LAST_NOTHING)),
-)];
-
-#[test]
-fn a_thousand_requests(rt: HostRuntime) -> Result<(), AllocError> {
-    are_answered(&rt, rt.alloc(), THOUSAND, 0)
-}
-
-#[test]
-fn requests_that_end_the_stream(rt: HostRuntime) -> Result<(), AllocError> {
-    let closing = b"GET /totals HTTP/1.1\r\nHost: a\r\nConnection: close\r\n\r\n";
-    let old = b"GET /totals HTTP/1.0\r\n\r\n";
-    let rows = &[last(closing, LAST_NOTHING), last(old, LAST_NOTHING)];
-    are_answered(&rt, rt.alloc(), rows, 0)
-}
-
 const WAITING: &'static [u8] = b"\
 POST /commands HTTP/1.1\r\nHost: localhost\r\nContent-Length: 49\r\nExpect: 100-Continue\r\n\r\n";
 
-const BODY: &'static [u8] = b"{\"kind\":\"cause\",\"ref\":\"R1\",\"f1\":\"3\",\"f2\":\"STORM\"}";
+// A writer that takes all but the last byte of the interim reply.
+const NARROW: Ways = Ways { room: 24, ..WHOLE };
 
-// The same without its last byte.
-const CUT_BODY: &'static [u8] = b"{\"kind\":\"cause\",\"ref\":\"R1\",\"f1\":\"3\",\"f2\":\"STORM\"";
+// The bytes of a stream and its way, how it ends, and the written bytes. The book has no command.
+type Long = (Many, Ways, Result<u32, Fault>, Many);
 
-const CONTINUE: &'static [u8] = b"HTTP/1.1 100 Continue\r\n\r\n";
-
-// A client waits for the interim reply, and its stream is cut off.
-const CUT_OFF: Row = (
-    Ask::Many((WAITING, CUT_BODY, 1, b"")),
-    Err(Fault::Input),
-    Reply::Text(CONTINUE),
-);
-
-const CUT: &[Row] = &[CUT_OFF];
-
-// Another client waits and sends its whole body.
-const WAITS: &[Row] = &[
-    CUT_OFF,
+// A line whose first 16,384 bytes have no end; 1,001 requests, of which the 1,000th gets the last
+// reply, and the desk doesn't read what follows it; and an interim reply that breaks off.
+const LONG: &[Long] = &[
     (
-        Ask::Many((WAITING, BODY, 1, b"")),
+        (b"GET /", b"a", 16_379, b""),
+        WHOLE,
         Ok(1),
-        Reply::Many((CONTINUE, FIRST, 1, b"")),
+        (FIELDS_TOO_LARGE, b"", 0, b""),
+    ),
+    (
+        (b"", TOTALS, 1_001, b""),
+        WHOLE,
+        Ok(1_000),
+        (b"", NOTHING, 999, LAST_NOTHING),
+    ),
+    (
+        (WAITING, b"", 0, b""),
+        NARROW,
+        Err(Fault::Output),
+        (b"HTTP/1.1 100 Continue\r\n\r", b"", 0, b""),
     ),
 ];
 
-#[test]
-fn the_interim_reply(rt: HostRuntime) -> Result<(), AllocError> {
-    are_answered(&rt, rt.alloc(), CUT, 0)?;
-    are_answered(&rt, rt.alloc(), WAITS, 1)
-}
-
-// A writer takes all but the last byte of the interim reply.
-#[test]
-fn an_interim_reply_that_breaks_off(rt: HostRuntime) -> Result<(), AllocError> {
-    let rows = &[Stream {
-        text: WAITING,
-        way: Ways { room: 24, ..WHOLE },
-        end: Err(Fault::Output),
-        written: &CONTINUE[..24],
+// Checks such a stream over a new book.
+fn ends_so(rt: &impl Abort, alloc: Global, long: &Long) -> Result<(), AllocError> {
+    let (asked, way, end, wanted) = long;
+    let text = many(alloc, asked)?;
+    let written = many(alloc, wanted)?;
+    let stream = Stream {
+        text: &text,
+        way: *way,
+        end: *end,
+        written: &written,
         commands: Some(0),
-    }];
-    over_a_book(&rt, rt.alloc(), &Streams { rows, commands: 0 })
+    };
+    let rows = &[stream];
+    over_a_store(rt, alloc, true, &Streams { rows, commands: 0 })
 }
 
-// Two requests that can't be answered with 200.
-const TWO: &'static [u8] = b"\
-POST /totals HTTP/1.1\r\nHost: a\r\nContent-Length: 0\r\n\r\n\
-GET /nothing HTTP/1.1\r\nHost: a\r\n\r\n";
-
-const REFUSALS: &'static [u8] = b"\
-HTTP/1.1 405 Method Not Allowed\r\nContent-Length: 0\r\nAllow: GET\r\n\r\n\
-HTTP/1.1 404 Not Found\r\nContent-Length: 0\r\n\r\n";
-
-// A stream goes on after them.
-const GOES_ON: &[Row] = &[(
-    Ask::Many((TWO, STORM, 1, b"")),
-    Ok(3),
-    Reply::Many((REFUSALS, FIRST, 1, b"")),
-)];
-
 #[test]
-fn a_stream_goes_on(rt: HostRuntime) -> Result<(), AllocError> {
-    are_answered(&rt, rt.alloc(), GOES_ON, 1)
+fn long_streams(rt: HostRuntime) -> Result<(), AllocError> {
+    for long in LONG {
+        ends_so(&rt, rt.alloc(), long)?;
+    }
+    Ok(())
 }

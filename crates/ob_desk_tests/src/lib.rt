@@ -16,15 +16,9 @@ mod exchange;
 #[cfg(test)]
 mod heads;
 #[cfg(test)]
-mod imports;
-#[cfg(test)]
-mod log;
-#[cfg(test)]
 mod loopback;
 #[cfg(test)]
 mod memory;
-#[cfg(test)]
-mod plans;
 #[cfg(test)]
 mod replies;
 #[cfg(test)]

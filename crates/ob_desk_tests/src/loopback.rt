@@ -1,7 +1,6 @@
 //! Tests of streams over a socket, in one process: the client writes and hangs up or waits, and
 //! then the desk serves.
-use crate::desk::{Desk, Trial, Tried, over_a_store};
-use crate::log::Log;
+use crate::desk::{Desk, Log, Trial, Tried, over_a_store};
 use crate::texts::LAST_NOTHING;
 use ob_base::Fault;
 use ob_desk::Unserved;
@@ -43,21 +42,7 @@ struct Case {
     commands: Option<u32>,
 }
 
-// A client that has written a text, and has hung up or waits.
-fn client(
-    host: &HostRuntime,
-    listener: &TcpListener,
-    text: &[u8],
-    hangs_up: bool,
-) -> io::Result<TcpStream> {
-    let mut client = TcpStream::connect(host, listener.local_addr()?)?;
-    client.write_all(text)?;
-    if hangs_up {
-        client.shutdown(Shutdown::Write)?;
-    }
-    Ok(client)
-}
-
+// Clients that have written their texts, one after the other, and have hung up or wait.
 fn clients(
     host: &HostRuntime,
     listener: &TcpListener,
@@ -65,23 +50,23 @@ fn clients(
 ) -> io::Result<Vec<TcpStream>> {
     let mut clients = Vec::new(host.alloc());
     for (text, hangs_up, _) in rows {
-        clients.push(client(host, listener, text, *hangs_up)?)?;
+        let mut client = TcpStream::connect(host, listener.local_addr()?)?;
+        client.write_all(text)?;
+        if *hangs_up {
+            client.shutdown(Shutdown::Write)?;
+        }
+        clients.push(client)?;
     }
     Ok(clients)
 }
 
-// Answers whether a client reads these bytes, and then the end.
-fn is_told(alloc: Global, client: &mut TcpStream, wanted: &[u8]) -> io::Result<bool> {
-    let mut reply = Vec::new(alloc);
-    client.read_to_end(&mut reply)?;
-    Ok(reply.as_slice() == wanted)
-}
-
-// Answers whether each client that waits reads its reply.
+// Answers whether each client that waits reads its reply, and then the end.
 fn are_told(alloc: Global, clients: &mut [TcpStream], rows: &[Client]) -> io::Result<bool> {
     for (client, (_, _, reply)) in clients.iter_mut().zip(rows) {
         if let Some(wanted) = reply {
-            if !is_told(alloc, client, wanted)? {
+            let mut bytes = Vec::new(alloc);
+            client.read_to_end(&mut bytes)?;
+            if bytes.as_slice() != *wanted {
                 return Ok(false);
             }
         }
@@ -94,12 +79,16 @@ fn is_served<D: Desk>(host: &HostRuntime, desk: &mut D, case: &Case) -> io::Resu
     let mut clients = clients(host, &listener, case.clients)?;
     // If no client waits, the next stream can't be accepted.
     listener.set_nonblocking(case.streams == 0)?;
-    let mut log = Log::new();
+    let mut log = Log {
+        last: None,
+        count: 0,
+    };
     let end = desk.serves(host.alloc(), &listener, case.streams, &mut log);
     listener.set_nonblocking(true)?;
     Ok(
         end == case.end
-            && log.is(case.faults, case.last)
+            && log.count == case.faults
+            && log.last == case.last
             && are_told(host.alloc(), &mut clients, case.clients)?
             && listener.accept().is_ok() == case.leaves,
     )
@@ -119,12 +108,6 @@ impl Trial for Served<'_> {
     }
 }
 
-// Checks a case over a new book, or without one.
-fn is_well(rt: &impl Abort, host: &HostRuntime, case: &Case) -> Result<(), AllocError> {
-    let begins = case.commands.is_some();
-    over_a_store(rt, host.alloc(), begins, &Served { host, case })
-}
-
 // A client that writes the whole request reads its reply, and then the end.
 const WHOLE: Client = (LAST_STORM, false, Some(LAST_REPLY));
 
@@ -138,11 +121,6 @@ const ONE: Case = Case {
     commands: Some(1),
 };
 
-#[test]
-fn one_stream_over_a_socket(rt: HostRuntime) -> Result<(), AllocError> {
-    is_well(&rt, &rt, &ONE)
-}
-
 // A client writes the front of a request and hangs up; the next one sends it whole.
 const BEHIND_A_CUT: Case = Case {
     clients: &[(CUT, true, None), WHOLE],
@@ -151,11 +129,6 @@ const BEHIND_A_CUT: Case = Case {
     last: Some(Fault::Input),
     ..ONE
 };
-
-#[test]
-fn a_cut_stream_and_the_next(rt: HostRuntime) -> Result<(), AllocError> {
-    is_well(&rt, &rt, &BEHIND_A_CUT)
-}
 
 // A client that asks only for the totals of the empty book.
 const ASKS: Client = (TOTALS, false, Some(LAST_NOTHING));
@@ -169,11 +142,6 @@ const TWO_OF_THREE: Case = Case {
     ..ONE
 };
 
-#[test]
-fn two_streams_of_three(rt: HostRuntime) -> Result<(), AllocError> {
-    is_well(&rt, &rt, &TWO_OF_THREE)
-}
-
 // Without a number all clients are served, until no further stream can be accepted.
 const ALL: Case = Case {
     clients: &[ASKS, ASKS, ASKS],
@@ -182,11 +150,6 @@ const ALL: Case = Case {
     commands: Some(0),
     ..ONE
 };
-
-#[test]
-fn all_streams(rt: HostRuntime) -> Result<(), AllocError> {
-    is_well(&rt, &rt, &ALL)
-}
 
 // Without a book the first request that needs one ends the service.
 const WITHOUT_A_BOOK: Case = Case {
@@ -197,7 +160,14 @@ const WITHOUT_A_BOOK: Case = Case {
     ..ONE
 };
 
+// Each over a new book, or without one.
+const CASES: &'static [Case] = &[ONE, BEHIND_A_CUT, TWO_OF_THREE, ALL, WITHOUT_A_BOOK];
+
 #[test]
-fn a_keeper_without_a_book(rt: HostRuntime) -> Result<(), AllocError> {
-    is_well(&rt, &rt, &WITHOUT_A_BOOK)
+fn streams_over_a_socket(rt: HostRuntime) -> Result<(), AllocError> {
+    for case in CASES {
+        let served = Served { host: &rt, case };
+        over_a_store(&rt, rt.alloc(), case.commands.is_some(), &served)?;
+    }
+    Ok(())
 }

@@ -1,6 +1,6 @@
 //! Tests of readers and writers that are interrupted many times: a stream has 65,536 retries in
 //! all, shared by all its requests and by the reader and the writer.
-use crate::desk::{Stream, over_a_book};
+use crate::desk::{Stream, over_a_store};
 use crate::exchange::Streams;
 use crate::streams::{WHOLE, Ways};
 use crate::texts::FIRST;
@@ -64,5 +64,5 @@ fn interrupted_in_two_requests(rt: HostRuntime) -> Result<(), AllocError> {
         interrupted(0, 32_768, Ok(2), REPLIES, 2),
         interrupted(16_384, 16_384, Ok(2), REPLIES, 2),
     ];
-    over_a_book(&rt, rt.alloc(), &Streams { rows, commands: 2 })
+    over_a_store(&rt, rt.alloc(), true, &Streams { rows, commands: 2 })
 }

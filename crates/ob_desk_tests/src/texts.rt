@@ -1,5 +1,4 @@
 //! Texts of requests and replies.
-use crate::script::Many;
 use ob_http_requests::{Method, Request};
 use std::alloc::{AllocError, Global};
 
@@ -29,46 +28,19 @@ HTTP/1.1 200 OK\r\nContent-Type: application/json\r\nContent-Length: 43\r\nConne
 pub const UNAVAILABLE: &'static [u8] =
     b"HTTP/1.1 503 Service Unavailable\r\nContent-Length: 0\r\nConnection: close\r\n\r\n";
 
-/// A request without a body.
-pub fn get(alloc: Global, path: &str) -> Result<Vec<u8>, AllocError> {
-    let text = format!(in alloc; "GET {path} HTTP/1.1\r\nHost: a\r\n\r\n")?;
-    Ok(text.into_bytes())
-}
-
-/// A request with a body.
-pub fn post(alloc: Global, path: &str, body: &str) -> Result<Vec<u8>, AllocError> {
-    let length = body.len();
-    let text = format!(in alloc;
-        "POST {path} HTTP/1.1\r\nHost: a\r\nContent-Length: {length}\r\n\r\n{body}"
-    )?;
-    Ok(text.into_bytes())
-}
-
-/// A request as it is read, without an interim reply.
-pub fn request(
-    alloc: Global,
-    method: Method,
-    target: &str,
-    body: &str,
-) -> Result<Request, AllocError> {
+/// A GET as it is read, without an interim reply.
+pub fn request(alloc: Global, target: &str) -> Result<Request, AllocError> {
     Ok(Request {
-        method,
+        method: Method::Get,
         target: target.to_string(alloc)?,
-        body: body.as_bytes().to_vec(alloc)?,
+        body: Vec::new(alloc),
         waits: false,
         closes: false,
     })
 }
 
-/// A reply with a body in JSON.
-pub fn json(alloc: Global, status: &str, body: &str) -> Result<Vec<u8>, AllocError> {
-    let length = body.len();
-    let text = format!(in alloc;
-        "HTTP/1.1 {status}\r\nContent-Type: application/json\r\n\
-         Content-Length: {length}\r\n\r\n{body}"
-    )?;
-    Ok(text.into_bytes())
-}
+/// A front, a middle text, the number of its repetitions, and an end.
+pub type Many = (&'static [u8], &'static [u8], u32, &'static [u8]);
 
 /// A front, a middle text repeated a number of times, and an end.
 pub fn many(alloc: Global, parts: &Many) -> Result<Vec<u8>, AllocError> {

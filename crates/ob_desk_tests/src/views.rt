@@ -2,11 +2,10 @@
 //! `Keeper` without a book. The annual table and the rest of a whole book are those of
 //! `oracle/compare.py`.
 use crate::desk::{Desk, Stream, Trial, Tried, ends_so, over_a_store};
-use crate::script::{Many, lines_are_answered};
+use crate::script::{Lines, are_answered};
 use crate::streams::{WHOLE, Ways};
-use crate::texts::{LAST_NOTHING, UNAVAILABLE, many, request};
+use crate::texts::{LAST_NOTHING, Many, UNAVAILABLE, many, request};
 use ob_base::Fault;
-use ob_http_requests::Method;
 use ob_http_routes::Routes;
 use std::alloc::{AllocError, Global};
 use std::process::Abort;
@@ -34,11 +33,14 @@ GET /commands/26 => 404
 GET /commands/4294967295 => 404
 ";
 
-#[test]
-fn views_of_the_outage(rt: HostRuntime) -> Result<(), AllocError> {
-    lines_are_answered(&rt, rt.alloc(), VIEWS, Some(25))?;
-    lines_are_answered(&rt, rt.alloc(), NOT_THERE, Some(25))
-}
+// The first second of the outage, the one in which it has ended, and seconds outside the period.
+const SUPPLY: &'static str =
+    r#"GET /supply/1704070800 => 200 {"devices":[{"alive":true,"device":"I1","position":"closed"},{"alive":true,"device":"B1","position":"open"},{"alive":true,"device":"W1","position":"closed"},{"alive":true,"device":"B2","position":"closed"},{"alive":true,"device":"T1","position":"open"}],"second":1704070800,"sections":[{"cause":3,"customers":2,"entry":1,"section":"S1","since":1704070800,"until":1704074400},{"cause":3,"customers":3,"entry":1,"section":"S2","since":1704070800,"until":1704071400}]}
+GET /supply/01704074400?x => 200 {"devices":[{"alive":true,"device":"I1","position":"closed"},{"alive":true,"device":"B1","position":"closed"},{"alive":true,"device":"W1","position":"open"},{"alive":true,"device":"B2","position":"closed"},{"alive":true,"device":"T1","position":"closed"}],"second":1704074400,"sections":[]}
+GET /supply/1704067199 => 404
+GET /supply/1704153600 => 404
+GET /supply/99999999999 => 404
+"#;
 
 // Paths that have no route with either method (`*`), and routes of the other method.
 const NO_ROUTES: &'static str = "\
@@ -74,9 +76,17 @@ POST /commands/0 => 405 GET
 POST /supply/1704070800 => 405 GET
 ";
 
+const SCRIPTS: &'static [Lines] = &[
+    (VIEWS, Some(25)),
+    (NOT_THERE, Some(25)),
+    (SUPPLY, Some(25)),
+    (NO_ROUTES, Some(25)),
+    (NO_ROUTES, None),
+];
+
 #[test]
-fn no_routes(rt: HostRuntime) -> Result<(), AllocError> {
-    lines_are_answered(&rt, rt.alloc(), NO_ROUTES, Some(25))
+fn answers_of_views(rt: HostRuntime) -> Result<(), AllocError> {
+    are_answered(&rt, rt.alloc(), SCRIPTS)
 }
 
 // Requests that need a book.
@@ -124,12 +134,6 @@ const NOTHING: &'static [u8] = b"GET /nothing HTTP/1.1\r\nHost: a\r\n\r\n";
 // A writer that fails after nine bytes.
 const NARROW: Ways = Ways { room: 9, ..WHOLE };
 
-#[test]
-fn without_a_book(rt: HostRuntime) -> Result<(), AllocError> {
-    lines_are_answered(&rt, rt.alloc(), NO_ROUTES, None)?;
-    over_a_store(&rt, rt.alloc(), false, &Needy)
-}
-
 // The answer to a request without a stream, which ends with it.
 struct Alone;
 
@@ -138,7 +142,7 @@ impl Trial for Alone {
         let Ok(routes) = Routes::new(alloc) else {
             return Err(AllocError);
         };
-        let request = request(alloc, Method::Get, "/totals", "")?;
+        let request = request(alloc, "/totals")?;
         let Ok(reply) = desk.replies(alloc, &routes, &request, true) else {
             return Err(AllocError);
         };
@@ -148,6 +152,7 @@ impl Trial for Alone {
 }
 
 #[test]
-fn an_answer_without_a_stream(rt: HostRuntime) -> Result<(), AllocError> {
+fn without_a_book_and_without_a_stream(rt: HostRuntime) -> Result<(), AllocError> {
+    over_a_store(&rt, rt.alloc(), false, &Needy)?;
     over_a_store(&rt, rt.alloc(), true, &Alone)
 }
