@@ -1,6 +1,6 @@
 //! Tests of tables that aren't those of a book: the table that the audit names, and that no book is
 //! loaded.
-use crate::books::MARKED_BOOK;
+use crate::books::{MARKED_BOOK, OUTAGE_BOOK};
 use crate::office::{BAD_BOOK, OLD_VERSION};
 use crate::steps::{Step, spoil};
 use ob_net::Stop;
@@ -56,11 +56,6 @@ const SPOILT: &[&'static str] = &[
     "DELETE FROM posting; DELETE FROM moved => moved",
 ];
 
-#[test]
-fn tables_of_no_book(rt: HostRuntime) -> Result<(), Stop> {
-    spoil(&rt, rt.alloc(), MARKED_BOOK, SPOILT, NO_BOOK_THEN)
-}
-
 // Changes that make the tables those of version 1, whatever else they contain.
 const OLD: &[&'static str] = &[
     "UPDATE meta SET version = 1",
@@ -77,7 +72,26 @@ const OLD_THEN: &[Step] = &[
     Step::Has(false),
 ];
 
+// Other objects next to the tables of a book, or in place of one of them.
+const BESIDE: &[&'static str] = &[
+    "CREATE INDEX by_second ON entry (second)",
+    "CREATE TABLE note (id INTEGER PRIMARY KEY) STRICT",
+    "CREATE VIEW marks AS SELECT day FROM mark",
+    "DROP TABLE meta; CREATE VIEW meta AS SELECT 1 AS id, 2 AS version, '2024-01-01' AS day0, 1 AS days, 'UTC0' AS zone FROM cmd WHERE id = 1",
+    "DROP TABLE mark; CREATE TABLE mark (day INTEGER PRIMARY KEY, engineer TEXT NOT NULL) STRICT",
+];
+
+// Such a database holds no book, and nothing in it is changed.
+const BESIDE_THEN: &[Step] = &[
+    Step::Audit("BadBook"),
+    Step::Load(BAD_BOOK),
+    Step::Has(false),
+    Step::Migrate(Ok(false)),
+];
+
 #[test]
-fn tables_of_version_one(rt: HostRuntime) -> Result<(), Stop> {
-    spoil(&rt, rt.alloc(), MARKED_BOOK, OLD, OLD_THEN)
+fn tables_of_no_book(rt: HostRuntime) -> Result<(), Stop> {
+    spoil(&rt, rt.alloc(), MARKED_BOOK, SPOILT, NO_BOOK_THEN)?;
+    spoil(&rt, rt.alloc(), MARKED_BOOK, OLD, OLD_THEN)?;
+    spoil(&rt, rt.alloc(), OUTAGE_BOOK, BESIDE, BESIDE_THEN)
 }

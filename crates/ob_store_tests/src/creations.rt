@@ -1,6 +1,7 @@
-//! Tests of new books, and of calls without a book.
-use crate::books::TWO_FEEDERS_BOOK;
-use crate::office::{BAD_BOOK, NO_OLD_BOOK};
+//! Tests of new books, of calls without a book, and of loads: a book in memory stays when the
+//! tables no longer hold one.
+use crate::books::{OUTAGE_BOOK, TWO_FEEDERS_BOOK};
+use crate::office::{BAD_BOOK, NO_OLD_BOOK, OLD_VERSION};
 use crate::scripts::TWO_FEEDERS;
 use crate::steps::{NEW, Step, tell};
 use ob_net::{Refusal, Stop};
@@ -16,13 +17,8 @@ const SECOND: &[Step] = &[
     Step::Change(""),
     ANOTHER,
     Step::Has(false),
-    Step::Leave(&[1, 3, 5, 5, 5, 10, 0, 0, 21, 0, 320], 0),
+    Step::Leave("1 3 5 5 5 10 0 0 21 0 320", 0),
 ];
-
-#[test]
-fn a_book_is_made_once(rt: HostRuntime) -> Result<(), Stop> {
-    tell(&rt, rt.alloc(), &[TWO_FEEDERS_BOOK, SECOND])
-}
 
 const BAD_PERIOD: Result<(), Stop> = Err(Stop::Refused(Refusal::BadPeriod));
 
@@ -37,13 +33,8 @@ const PERIODS: &[Step] = &[
     Step::Make(b"2024-02-30", 1, b"UTC0", BAD_PERIOD),
     Step::Has(false),
     Step::Make(b"2024-01-01", 366, b"UTC0", Ok(())),
-    Step::Leave(&[1, 1, 1, 0, 0, 0, 0, 0, 0, 0, 685], 0),
+    Step::Leave("1 1 1 0 0 0 0 0 0 0 685", 0),
 ];
-
-#[test]
-fn a_period_that_there_is_not(rt: HostRuntime) -> Result<(), Stop> {
-    tell(&rt, rt.alloc(), &[PERIODS])
-}
 
 // Databases with nothing or something else in them: no book is audited, loaded or migrated, and the
 // rows stay as they are.
@@ -64,13 +55,6 @@ const META: Step = Step::Change("CREATE TABLE meta (id INTEGER PRIMARY KEY) STRI
 // No book can be created in a database that holds a table.
 const NO_ROOM: &[Step] = &[ANOTHER, Step::Has(false)];
 
-#[test]
-fn databases_of_something_else(rt: HostRuntime) -> Result<(), Stop> {
-    tell(&rt, rt.alloc(), &[NOTHING])?;
-    tell(&rt, rt.alloc(), &[&[NOTE], NOTHING, NO_ROOM])?;
-    tell(&rt, rt.alloc(), &[&[META], NOTHING, NO_ROOM])
-}
-
 // Without a book, sending a command, planning it or asking for a stored reply requires one to be
 // loaded first; then a book is created, and takes commands.
 const BEGUN: &[Step] = &[
@@ -81,7 +65,52 @@ const BEGUN: &[Step] = &[
     Step::Tell(TWO_FEEDERS),
 ];
 
+// A table `life` with the same column names in the same order, but the first second of a life is
+// stored as text.
+const LIVES_AS_TEXTS: &'static str =
+    "DROP TABLE life; CREATE TABLE life (device INTEGER PRIMARY KEY REFERENCES device (id), since \
+     TEXT NOT NULL, until INTEGER)";
+
+// A new book is loaded over such tables. After the first device the tables no longer hold a book,
+// and the `Keeper` goes on with the book in its memory.
+const OVER_LIVES_AS_TEXTS: &[Step] = &[
+    Step::Change(LIVES_AS_TEXTS),
+    Step::Load(Ok(())),
+    Step::Tell("N1 bus BUS-A => 1"),
+    Step::Tell("N2 device B0 GRID BUS-A closed 0 - => 2"),
+    Step::Note,
+    Step::Audit("life"),
+    Step::Load(BAD_BOOK),
+    Step::Migrate(Ok(false)),
+    Step::Same,
+    Step::Tell("N2 device B0 GRID BUS-A closed 0 - => 2"),
+    Step::Tell("N3 cause 3 STORM => 3"),
+];
+
+// The same with version 1 in the heading: the version is reported first.
+const OLD_BESIDE: &[Step] = &[
+    Step::Change("UPDATE meta SET version = 1; CREATE VIEW marks AS SELECT day FROM mark"),
+    Step::Audit("OldVersion"),
+    Step::Load(OLD_VERSION),
+    Step::Has(false),
+    Step::Migrate(NO_OLD_BOOK),
+];
+
+const CREATIONS: &[&[&[Step]]] = &[
+    &[TWO_FEEDERS_BOOK, SECOND],
+    &[PERIODS],
+    &[NOTHING],
+    &[&[NOTE], NOTHING, NO_ROOM],
+    &[&[META], NOTHING, NO_ROOM],
+    &[BEGUN],
+    &[&[NEW], OVER_LIVES_AS_TEXTS],
+    &[OUTAGE_BOOK, OLD_BESIDE],
+];
+
 #[test]
-fn without_a_book(rt: HostRuntime) -> Result<(), Stop> {
-    tell(&rt, rt.alloc(), &[BEGUN])
+fn new_books_and_loads(rt: HostRuntime) -> Result<(), Stop> {
+    for parts in CREATIONS {
+        tell(&rt, rt.alloc(), parts)?;
+    }
+    Ok(())
 }

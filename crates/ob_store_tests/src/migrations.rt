@@ -44,14 +44,9 @@ const AS_TODAY: &[Step] = &[
     Step::Same,
     Step::Find(
         "SELECT count(*) FROM life WHERE since = 0 AND until IS NULL",
-        5,
+        "5",
     ),
 ];
-
-#[test]
-fn the_outage_of_version_one(rt: HostRuntime) -> Result<(), Stop> {
-    tell(&rt, rt.alloc(), &[OUTAGE_BOOK, OF_TODAY, AS_TODAY])
-}
 
 // A device's command is known under its reference, another command is not that one, and from then
 // on a device with a life can be added.
@@ -61,32 +56,23 @@ N7 device I1 GRID BUS-A closed 0 1704153600 => no: 11 RefConflict 7
 N22 switch B1 open 1704070800 3 K1 => 22: cause 3 414000, feeder 1 414000, day 0 414000
 ";
 
-const AFTER_A_MIGRATION: &[&[Step]] = &[
-    // A correction.
-    &[
-        Step::Load(Ok(())),
-        Step::Tell(AGAIN),
-        Step::Tell(CORRECTED),
-        Step::Audit("none"),
-        Step::Leave(&[1, 3, 5, 5, 5, 10, 4, 0, 26, 12, 320], 7_800),
-    ],
-    // A new device.
-    &[
-        Step::Load(Ok(())),
-        Step::Tell(AGAIN),
-        Step::Tell(JOINS_IN_OUTAGE),
-        Step::Audit("none"),
-        Step::Leave(&[1, 3, 5, 6, 6, 10, 4, 0, 26, 12, 320], 4_600),
-    ],
+// After the migration: a correction.
+const CORRECTED_THEN: &[Step] = &[
+    Step::Load(Ok(())),
+    Step::Tell(AGAIN),
+    Step::Tell(CORRECTED),
+    Step::Audit("none"),
+    Step::Leave("1 3 5 5 5 10 4 0 26 12 320", 7_800),
 ];
 
-#[test]
-fn commands_of_a_migrated_book(rt: HostRuntime) -> Result<(), Stop> {
-    for case in AFTER_A_MIGRATION {
-        tell(&rt, rt.alloc(), &[MIGRATED, *case])?;
-    }
-    Ok(())
-}
+// After the migration: a new device.
+const JOINED_THEN: &[Step] = &[
+    Step::Load(Ok(())),
+    Step::Tell(AGAIN),
+    Step::Tell(JOINS_IN_OUTAGE),
+    Step::Audit("none"),
+    Step::Leave("1 3 5 6 6 10 4 0 26 12 320", 4_600),
+];
 
 // A book of version 2 stays, in the tables and in memory.
 const OF_VERSION_TWO: &[Step] = &[
@@ -98,11 +84,6 @@ const OF_VERSION_TWO: &[Step] = &[
     Step::Has(false),
     Step::SameRows,
 ];
-
-#[test]
-fn a_book_of_today(rt: HostRuntime) -> Result<(), Stop> {
-    tell(&rt, rt.alloc(), &[OUTAGE_BOOK, OF_VERSION_TWO])
-}
 
 // The tables aren't those of a book of version 1, and stay as they are, row by row.
 const LEFT: &[Step] = &[
@@ -168,25 +149,22 @@ const SPOILT: &[&'static str] = &[
     "DROP TABLE meta",
 ];
 
-#[test]
-fn tables_of_no_old_book(rt: HostRuntime) -> Result<(), Stop> {
-    spoil(&rt, rt.alloc(), MARKED_OLD, SPOILT, LEFT)
-}
-
 // Commands that version 1 didn't accept after a switching, or at all, and that version 2 accepts. A
 // device's body text is changed to the old form.
-const LATER_PARTS: &[&[Step]] = &[
-    &[Step::Tell("N26 bus BUS-B => 26")],
-    &[Step::Tell("N26 section S9 9 => 26")],
-    &[
-        Step::Tell("N26 device X1 BUS-A S3 closed 0 - => 26"),
-        Step::Change("UPDATE cmd SET body = 'device X1 BUS-A S3 closed' WHERE id = 26"),
-    ],
-    &[Step::Tell("N26 life T1 0 - => 26")],
-    &[Step::Tell(
-        "N26 withdraw 3 1 => 26: cause 3 246600, feeder 1 246600, day 0 246600\nN27 bus BUS-B => 27",
-    )],
+const BUS_LATER: &[Step] = &[Step::Tell("N26 bus BUS-B => 26")];
+
+const SECTION_LATER: &[Step] = &[Step::Tell("N26 section S9 9 => 26")];
+
+const DEVICE_LATER: &[Step] = &[
+    Step::Tell("N26 device X1 BUS-A S3 closed 0 - => 26"),
+    Step::Change("UPDATE cmd SET body = 'device X1 BUS-A S3 closed' WHERE id = 26"),
 ];
+
+const LIFE_LATER: &[Step] = &[Step::Tell("N26 life T1 0 - => 26")];
+
+const BUS_AFTER_A_WITHDRAWAL: &[Step] = &[Step::Tell(
+    "N26 withdraw 3 1 => 26: cause 3 246600, feeder 1 246600, day 0 246600\nN27 bus BUS-B => 27",
+)];
 
 // The tables become those of version 1, and the migration leaves them as they are.
 const OLD_LEFT: &[Step] = &[
@@ -197,43 +175,26 @@ const OLD_LEFT: &[Step] = &[
     Step::SameRows,
 ];
 
-#[test]
-fn parts_behind_a_switching(rt: HostRuntime) -> Result<(), Stop> {
-    for case in LATER_PARTS {
-        tell(&rt, rt.alloc(), &[OUTAGE_BOOK, *case, OLD_LEFT])?;
-    }
-    Ok(())
-}
-
 // Version 1 over the tables of version 2, and version 2 over the ten tables of version 1. The
 // migration takes the latter for tables of version 2, and they hold no book.
-const OTHER_VERSIONS: &[&[Step]] = &[
-    &[
-        Step::Change("UPDATE meta SET version = 1"),
-        Step::NoteRows,
-        Step::Migrate(NO_OLD_BOOK),
-        Step::Has(false),
-        Step::SameRows,
-    ],
-    &[
-        Step::Change(TO_VERSION_1),
-        Step::Change("UPDATE meta SET version = 2"),
-        Step::NoteRows,
-        Step::Migrate(Ok(false)),
-        Step::Has(false),
-        Step::SameRows,
-        Step::Load(BAD_BOOK),
-        Step::Audit("BadBook"),
-    ],
+const VERSION_1: &[Step] = &[
+    Step::Change("UPDATE meta SET version = 1"),
+    Step::NoteRows,
+    Step::Migrate(NO_OLD_BOOK),
+    Step::Has(false),
+    Step::SameRows,
 ];
 
-#[test]
-fn another_number_in_the_heading(rt: HostRuntime) -> Result<(), Stop> {
-    for case in OTHER_VERSIONS {
-        tell(&rt, rt.alloc(), &[OUTAGE_BOOK, *case])?;
-    }
-    Ok(())
-}
+const VERSION_2: &[Step] = &[
+    Step::Change(TO_VERSION_1),
+    Step::Change("UPDATE meta SET version = 2"),
+    Step::NoteRows,
+    Step::Migrate(Ok(false)),
+    Step::Has(false),
+    Step::SameRows,
+    Step::Load(BAD_BOOK),
+    Step::Audit("BadBook"),
+];
 
 // A book of version 1 with only its period.
 const BEGUN: &[Step] = &[
@@ -247,7 +208,30 @@ const BEGUN: &[Step] = &[
     Step::Load(Ok(())),
 ];
 
+const MIGRATIONS: &[&[&[Step]]] = &[
+    &[OUTAGE_BOOK, OF_TODAY, AS_TODAY],
+    &[MIGRATED, CORRECTED_THEN],
+    &[MIGRATED, JOINED_THEN],
+    &[OUTAGE_BOOK, OF_VERSION_TWO],
+    &[OUTAGE_BOOK, BUS_LATER, OLD_LEFT],
+    &[OUTAGE_BOOK, SECTION_LATER, OLD_LEFT],
+    &[OUTAGE_BOOK, DEVICE_LATER, OLD_LEFT],
+    &[OUTAGE_BOOK, LIFE_LATER, OLD_LEFT],
+    &[OUTAGE_BOOK, BUS_AFTER_A_WITHDRAWAL, OLD_LEFT],
+    &[OUTAGE_BOOK, VERSION_1],
+    &[OUTAGE_BOOK, VERSION_2],
+    &[BEGUN],
+];
+
 #[test]
-fn a_book_without_commands(rt: HostRuntime) -> Result<(), Stop> {
-    tell(&rt, rt.alloc(), &[BEGUN])
+fn migrations(rt: HostRuntime) -> Result<(), Stop> {
+    for parts in MIGRATIONS {
+        tell(&rt, rt.alloc(), parts)?;
+    }
+    Ok(())
+}
+
+#[test]
+fn tables_of_no_old_book(rt: HostRuntime) -> Result<(), Stop> {
+    spoil(&rt, rt.alloc(), MARKED_OLD, SPOILT, LEFT)
 }

@@ -9,7 +9,7 @@ use ob_net::{Fault, Life, Ref, Refusal, Second, Stop};
 use ob_post::Dim;
 use ob_store::{Keeper, Reply};
 use ob_sweep::Windowed;
-use sqlite::{Connection, Error, MemStore};
+use sqlite::{Connection, MemStore};
 use std::alloc::{AllocError, Global};
 
 /// The tables aren't those of a book.
@@ -21,10 +21,10 @@ pub const OLD_VERSION: Result<(), Stop> = Err(Stop::Refused(Refusal::OldVersion(
 /// The tables aren't those of a book of version 1, and their version isn't 2 either.
 pub const NO_OLD_BOOK: Result<bool, Stop> = Err(Stop::Refused(Refusal::BadBook));
 
-/// The answer to a call that needs a book while there is none.
-pub const REOPEN: Stop = Stop::Fault(Fault::Reopen);
+// The answer to a call that needs a book while there is none.
+const REOPEN: Stop = Stop::Fault(Fault::Reopen);
 
-/// A fault of the store.
+// A fault of the store.
 const STORE: Stop = Stop::Fault(Fault::Store);
 
 /// The calls of a `Keeper` over a store, without their contracts: with these each function that
@@ -39,8 +39,8 @@ pub trait Office: Drop {
     /// Reads the book that the tables hold.
     fn loads(&mut self) -> Result<(), Stop>;
 
-    /// Sends the command of a line, which is a reference and a body text.
-    fn acts(&mut self, line: &str) -> Result<Reply, Stop>;
+    /// Sends the command of a line, which is a reference and a body text. There always is a reply.
+    fn acts(&mut self, line: &str) -> Result<Option<Reply>, Stop>;
 
     /// The plan of the command of a line.
     fn plans(&mut self, line: &str) -> Result<Vec<u8>, Stop>;
@@ -58,21 +58,18 @@ pub trait Office: Drop {
     /// Answers whether there is a book.
     fn has_book(&self) -> bool;
 
-    /// The totals, the indices and the annual table of the book, and the lives of its devices.
-    fn texts(&self, alloc: Global) -> Result<Vec<u8>, Stop>;
-
     /// The amount under a key, the total, SAIDI and the texts of the book, or `none`.
     fn shows(&self, alloc: Global, dim: Dim, key: u16) -> Result<String, Stop>;
+
+    /// The lives of the book's devices, one a line.
+    fn lives(&self, alloc: Global) -> Result<Vec<u8>, Stop>;
 
     /// Another `Keeper`, without a book, over the same tables after some statements.
     fn again(self, alloc: Global, sql: &str) -> Result<Self, Stop>;
 
-    /// Another `Keeper`, without a book, over the same tables, and the rows that these queries find.
-    fn rows(self, alloc: Global, queries: &[&'static str]) -> Result<(Self, Vec<u8>), Stop>;
-
-    /// Another `Keeper`, without a book, over the same tables, and the numbers that these queries
+    /// Another `Keeper`, without a book, over the same tables, and the rows that these queries
     /// find.
-    fn numbers(self, alloc: Global, queries: &[&'static str]) -> Result<(Self, Vec<i64>), Stop>;
+    fn rows(self, alloc: Global, queries: &[&'static str]) -> Result<(Self, Vec<u8>), Stop>;
 }
 
 /// A `Keeper` over a store in memory.
@@ -86,22 +83,18 @@ fn adopted(alloc: Global, conn: Connection<MemStore>) -> Result<InMemory, Stop> 
     Ok(Keeper::adopt_connection(alloc, conn))
 }
 
-/// A reference and the command of a body text.
-pub fn asked(line: &str) -> Option<(Ref, Command)> {
+// A reference and the command of a body text.
+fn asked(line: &str) -> Option<(Ref, Command)> {
     let (reference, body) = line.split_once(" ")?;
     let reference = Ref::read(reference.as_bytes())?;
     let command = read_body(body.as_bytes())?;
     Some((reference, command))
 }
 
-// The plan of a command, by a function of its own: the prover can't borrow what it has just taken out
-// of an `Option`.
+// The plan of a command, by a function of its own: the prover can't borrow what it has just taken
+// out of an `Option`.
 fn planned(keeper: &mut InMemory, command: Command) -> Result<Vec<u8>, Stop> {
     keeper.plan(&command)
-}
-
-fn number(conn: &mut Connection<MemStore>, sql: &str) -> Result<i64, Error> {
-    conn.query_row(sql, &[])?.get(0)
 }
 
 // Appends a life to a text, with the largest number if it has no end.
@@ -110,10 +103,8 @@ fn put_life(alloc: Global, text: &mut Vec<u8>, life: Life) -> Result<(), AllocEr
     text.extend_from_slice(format!(in alloc; "{since} {until}\n")?.as_bytes())
 }
 
-fn texts_of(alloc: Global, book: &Book<Windowed>) -> Result<Vec<u8>, Stop> {
-    let mut text = book.totals_text()?;
-    text.extend_from_slice(&book.indices_text()?)?;
-    text.extend_from_slice(&book.annual_text()?)?;
+fn lives_of(alloc: Global, book: &Book<Windowed>) -> Result<Vec<u8>, Stop> {
+    let mut text = Vec::new(alloc);
     for device in 0..book.net().devices() {
         put_life(alloc, &mut text, book.net().life_of(device))?;
     }
@@ -136,9 +127,9 @@ impl Office for InMemory {
         self.load()
     }
 
-    fn acts(&mut self, line: &str) -> Result<Reply, Stop> {
+    fn acts(&mut self, line: &str) -> Result<Option<Reply>, Stop> {
         match asked(line) {
-            Some((reference, command)) => self.act(reference, command),
+            Some((reference, command)) => Ok(Some(self.act(reference, command)?)),
             None => Err(Stop::Refused(Refusal::BadField(0))),
         }
     }
@@ -170,17 +161,17 @@ impl Office for InMemory {
         self.book().is_some()
     }
 
-    fn texts(&self, alloc: Global) -> Result<Vec<u8>, Stop> {
-        match self.book() {
-            Some(book) => texts_of(alloc, book),
-            None => Err(REOPEN),
-        }
-    }
-
     fn shows(&self, alloc: Global, dim: Dim, key: u16) -> Result<String, Stop> {
         match shown(self, dim, key, Which::All) {
             Ok(found) => Ok(shown_text(alloc, &found)?),
             Err(stop) => Err(stop),
+        }
+    }
+
+    fn lives(&self, alloc: Global) -> Result<Vec<u8>, Stop> {
+        match self.book() {
+            Some(book) => lives_of(alloc, book),
+            None => Err(REOPEN),
         }
     }
 
@@ -195,20 +186,8 @@ impl Office for InMemory {
     fn rows(self, alloc: Global, queries: &[&'static str]) -> Result<(InMemory, Vec<u8>), Stop> {
         let (mut conn, mut rows) = (self.into_connection(), Vec::new(alloc));
         for sql in queries {
-            put_rows(&mut conn, sql, &mut rows)?;
+            put_rows(alloc, &mut conn, sql, &mut rows)?;
         }
         Ok((adopted(alloc, conn)?, rows))
-    }
-
-    fn numbers(
-        self,
-        alloc: Global,
-        queries: &[&'static str],
-    ) -> Result<(InMemory, Vec<i64>), Stop> {
-        let (mut conn, mut numbers) = (self.into_connection(), Vec::new(alloc));
-        for sql in queries {
-            numbers.push(number(&mut conn, sql).map_err(|_| STORE)?)?;
-        }
-        Ok((adopted(alloc, conn)?, numbers))
     }
 }

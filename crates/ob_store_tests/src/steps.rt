@@ -1,7 +1,7 @@
 //! Steps with a `Keeper` over a store in memory, one after another, and the answer to each.
 use crate::office::{InMemory, Office};
-use crate::rows::ROWS;
-use crate::texts::{answer_text, stored_text};
+use crate::rows::{COUNTS, ROWS};
+use crate::texts::answer_text;
 use ob_net::Stop;
 use ob_post::Dim;
 use std::alloc::Global;
@@ -45,12 +45,12 @@ pub enum Step {
     /// Checks that another `Keeper` loads the same tables and then shows the same book, the same
     /// lives and the same replies.
     Reopen,
-    /// Checks the number that a query finds, and goes on with another `Keeper`, without a book.
-    Find(&'static str, i64),
+    /// Checks the text that a query finds, and goes on with another `Keeper`, without a book.
+    Find(&'static str, &'static str),
     /// Checks the numbers of rows in the tables: the period, causes, nodes, devices, lives,
     /// customers, entries, marked days, commands, moves, amounts. The amounts of each dimension add
     /// up to the total, and each is the sum of the moves under its key.
-    Leave(&'static [i64], i64),
+    Leave(&'static str, u64),
 }
 
 /// A new book of 2024-01-01 in UTC.
@@ -103,20 +103,6 @@ pub fn spoil(
     Ok(())
 }
 
-/// Checks a script on a book that another `Keeper` loads, as it does what the script leaves; that
-/// has these numbers of rows and this total.
-pub fn leave(
-    rt: &impl Abort,
-    alloc: Global,
-    book: &[Step],
-    script: &'static str,
-    rows: &'static [i64],
-    total: i64,
-) -> Result<(), Stop> {
-    let told = &[Step::Reopen, Step::Tell(script), Step::Reopen];
-    tell(rt, alloc, &[book, told, &[Step::Leave(rows, total)]])
-}
-
 fn goes_on<O: Office>(
     rt: &impl Abort,
     alloc: Global,
@@ -148,7 +134,7 @@ fn taken<O: Office>(
     match step {
         Step::Open => Ok((O::opens(alloc)?, true)),
         Step::Change(sql) => Ok((office.again(alloc, *sql)?, true)),
-        Step::Reopen => reopened(alloc, office, noted),
+        Step::Reopen => reopened(alloc, office),
         Step::NoteRows => {
             let (again, rows) = office.rows(alloc, ROWS)?;
             noted.rows = rows;
@@ -159,10 +145,17 @@ fn taken<O: Office>(
             Ok((again, rows == noted.rows))
         }
         Step::Find(sql, wanted) => {
-            let (again, numbers) = office.numbers(alloc, &[*sql])?;
-            Ok((again, numbers.as_slice() == [*wanted].as_slice()))
+            let (again, rows) = office.rows(alloc, &[*sql])?;
+            let wanted = format!(in alloc; "table\n{wanted}\n")?;
+            Ok((again, rows.as_slice() == wanted.as_bytes()))
         }
-        Step::Leave(rows, total) => leaves(alloc, office, rows, *total),
+        Step::Leave(counts, total) => {
+            let (again, rows) = office.rows(alloc, COUNTS)?;
+            let wanted = format!(in alloc; "{counts} {total} {total} {total} 0")?;
+            let wanted = wanted.replace(alloc, " ", "\ntable\n")?;
+            let wanted = format!(in alloc; "table\n{wanted}\n")?;
+            Ok((again, rows.as_slice() == wanted.as_bytes()))
+        }
         _ => {
             let mut office = office;
             let holds = is_answered(rt, alloc, &mut office, noted, step)?;
@@ -181,15 +174,23 @@ fn is_answered<O: Office>(
     match step {
         Step::Make(first, days, zone, wanted) => Ok(office.makes(first, *days, zone) == *wanted),
         Step::Tell(script) => is_answered_so(rt, alloc, office, script),
-        Step::Plan(line, wanted) => Ok(is_planned(office, line, wanted)),
-        Step::Reply(no, wanted) => is_stored(alloc, office, *no, wanted),
+        Step::Plan(line, wanted) => match office.plans(line) {
+            Ok(text) => Ok(text.as_slice() == wanted.as_bytes()),
+            Err(stop) => Ok(stop.name() == *wanted),
+        },
+        Step::Reply(no, wanted) => {
+            Ok(answer_text(alloc, &office.replies(*no))?.as_str() == *wanted)
+        }
         Step::Audit(wanted) => Ok(office.audits() == *wanted),
         Step::Load(wanted) => Ok(office.loads() == *wanted),
         Step::Migrate(wanted) => Ok(office.migrates() == *wanted),
         Step::Has(wanted) => Ok(office.has_book() == *wanted),
         Step::Show(dim, key, wanted) => Ok(office.shows(alloc, *dim, *key)?.starts_with(*wanted)),
-        Step::Note => note(alloc, office, noted),
-        Step::Same => is_same(alloc, office, noted),
+        Step::Note => {
+            noted.shown = shown(alloc, office)?;
+            Ok(true)
+        }
+        Step::Same => Ok(shown(alloc, office)? == noted.shown),
         _ => Ok(true),
     }
 }
@@ -209,84 +210,22 @@ fn is_answered_so<O: Office>(
     Ok(true)
 }
 
-fn is_planned<O: Office>(office: &mut O, line: &str, wanted: &str) -> bool {
-    match office.plans(line) {
-        Ok(text) => text.as_slice() == wanted.as_bytes(),
-        Err(stop) => stop.name() == wanted,
-    }
-}
-
-fn is_stored<O: Office>(
-    alloc: Global,
-    office: &mut O,
-    no: u32,
-    wanted: &str,
-) -> Result<bool, Stop> {
-    let found = stored_text(alloc, &office.replies(no))?;
-    Ok(found.as_str() == wanted)
-}
-
 // What the book shows, with its devices' lives, and the stored replies of its commands, of which
 // there are fewer than forty.
 fn shown<O: Office>(alloc: Global, office: &mut O) -> Result<Vec<u8>, Stop> {
-    let mut text = office.texts(alloc)?;
+    let mut text = office.lives(alloc)?;
+    text.extend_from_slice(office.shows(alloc, Dim::Cause, 0)?.as_bytes())?;
     for no in 0..40 {
-        let reply = stored_text(alloc, &office.replies(no))?;
+        let reply = answer_text(alloc, &office.replies(no))?;
         text.extend_from_slice(reply.as_bytes())?;
     }
     Ok(text)
 }
 
-fn note<O: Office>(alloc: Global, office: &mut O, noted: &mut Noted) -> Result<bool, Stop> {
-    noted.shown = shown(alloc, office)?;
-    Ok(true)
-}
-
-fn is_same<O: Office>(alloc: Global, office: &mut O, noted: &Noted) -> Result<bool, Stop> {
-    Ok(shown(alloc, office)? == noted.shown)
-}
-
-fn reopened<O: Office>(alloc: Global, mut office: O, noted: &mut Noted) -> Result<(O, bool), Stop> {
-    note(alloc, &mut office, noted)?;
+fn reopened<O: Office>(alloc: Global, mut office: O) -> Result<(O, bool), Stop> {
+    let before = shown(alloc, &mut office)?;
     let mut again = office.again(alloc, "")?;
     let is_sound = again.audits() == "none" && again.loads() == Ok(());
-    let holds = is_sound && is_same(alloc, &mut again, noted)?;
+    let holds = is_sound && shown(alloc, &mut again)? == before;
     Ok((again, holds))
 }
-
-fn leaves<O: Office>(
-    alloc: Global,
-    office: O,
-    rows: &[i64],
-    total: i64,
-) -> Result<(O, bool), Stop> {
-    let (office, counts) = office.numbers(alloc, COUNTS)?;
-    let (office, sums) = office.numbers(alloc, SUMS)?;
-    let add_up = sums.as_slice() == [total, total, total, 0].as_slice();
-    Ok((office, counts.as_slice() == rows && add_up))
-}
-
-/// The number of rows of each table.
-const COUNTS: &'static [&'static str] = &[
-    "SELECT count(*) FROM meta",
-    "SELECT count(*) FROM cause",
-    "SELECT count(*) FROM node",
-    "SELECT count(*) FROM device",
-    "SELECT count(*) FROM life",
-    "SELECT count(*) FROM customer",
-    "SELECT count(*) FROM entry",
-    "SELECT count(*) FROM mark",
-    "SELECT count(*) FROM cmd",
-    "SELECT count(*) FROM moved",
-    "SELECT count(*) FROM posting",
-];
-
-/// The sum of each dimension's amounts, and how many amounts differ from the sum of the moves under
-/// their key.
-const SUMS: &'static [&'static str] = &[
-    "SELECT sum(amount) FROM posting WHERE dim = 1",
-    "SELECT sum(amount) FROM posting WHERE dim = 2",
-    "SELECT sum(amount) FROM posting WHERE dim = 3",
-    "SELECT count(*) FROM posting WHERE amount <> (SELECT coalesce(sum(delta), 0) FROM moved \
-     WHERE moved.dim = posting.dim AND moved.k = posting.k)",
-];

@@ -1,27 +1,25 @@
 //! The answer to a call, as a text of one line.
 use ob_headline::Shown;
 use ob_net::Stop;
-use ob_post::{Dim, Moved};
+use ob_post::Dim;
 use ob_store::Reply;
 use std::alloc::{AllocError, Global};
 
-/// The answer to a command.
-pub fn answer_text(alloc: Global, answer: &Result<Reply, Stop>) -> Result<String, AllocError> {
-    match answer {
-        Ok(reply) => reply_text(alloc, reply),
-        Err(stop) => stop_text(alloc, stop),
-    }
-}
-
-/// The stored reply of a command, or `none`.
-pub fn stored_text(
+/// The reply to a command, `none`, or the reason why there is no answer, as `no: 7 Stale 2`.
+pub fn answer_text(
     alloc: Global,
-    stored: &Result<Option<Reply>, Stop>,
+    answer: &Result<Option<Reply>, Stop>,
 ) -> Result<String, AllocError> {
-    match stored {
+    match answer {
         Ok(Some(reply)) => reply_text(alloc, reply),
         Ok(None) => String::from_str(alloc, "none"),
-        Err(stop) => stop_text(alloc, stop),
+        Err(stop) => {
+            let (number, name) = (stop.number(), stop.name());
+            match stop.detail() {
+                Some(detail) => format!(in alloc; "no: {number} {name} {detail}"),
+                None => format!(in alloc; "no: {number} {name}"),
+            }
+        }
     }
 }
 
@@ -32,42 +30,25 @@ fn reply_text(alloc: Global, reply: &Reply) -> Result<String, AllocError> {
     let mut text = format!(in alloc; "{no}")?;
     let mut between = ": ";
     for row in reply.moved.as_slice() {
-        text.push_str(between)?;
-        text.push_str(row_text(alloc, row)?.as_str())?;
+        let dim = match row.dim {
+            Dim::Cause => "cause",
+            Dim::Feeder => "feeder",
+            Dim::Day => "day",
+        };
+        let (key, delta) = (row.key, row.delta);
+        let part = format!(in alloc; "{between}{dim} {key} {delta}")?;
+        text.push_str(part.as_str())?;
         between = ", ";
     }
     Ok(text)
 }
 
-// The reason why there is no answer, as `no: 7 Stale 2`.
-fn stop_text(alloc: Global, stop: &Stop) -> Result<String, AllocError> {
-    let (number, name) = (stop.number(), stop.name());
-    match stop.detail() {
-        Some(detail) => format!(in alloc; "no: {number} {name} {detail}"),
-        None => format!(in alloc; "no: {number} {name}"),
-    }
-}
-
-fn row_text(alloc: Global, row: &Moved) -> Result<String, AllocError> {
-    let dim = match row.dim {
-        Dim::Cause => "cause",
-        Dim::Feeder => "feeder",
-        Dim::Day => "day",
-    };
-    let (key, delta) = (row.key, row.delta);
-    format!(in alloc; "{dim} {key} {delta}")
-}
-
 /// The amount under a key, the total and SAIDI, as `9000 of 9000, SAIDI 15/1`, and the three texts
 /// after it, each from a new line on; or `none`.
 pub fn shown_text(alloc: Global, shown: &Option<Shown>) -> Result<String, AllocError> {
-    match shown {
-        Some(shown) => figures_text(alloc, shown),
-        None => String::from_str(alloc, "none"),
-    }
-}
-
-fn figures_text(alloc: Global, shown: &Shown) -> Result<String, AllocError> {
+    let Some(shown) = shown else {
+        return String::from_str(alloc, "none");
+    };
     let (amount, total) = (shown.amount, shown.total);
     let mut text = format!(in alloc; "{amount} of {total}, SAIDI ")?;
     if let Some(saidi) = shown.indices.saidi {
