@@ -13,22 +13,17 @@ pub fn make<O: Office>(rt: &impl Abort, office: &mut O) -> Kept {
     }
 }
 
-// The number of books that the files hold.
-fn found<O: Office>(rt: &impl Abort, office: &mut O) -> u32 {
-    match office.loads() {
+/// Loads the new book, or creates it if there is none and none was acknowledged; the book then
+/// takes a command.
+pub fn holds_new<O: Office>(rt: &impl Abort, office: &mut O, kept: Kept) -> Kept {
+    let found = match office.loads() {
         Ok(()) => 1,
         Err(stop) => {
             assert!(rt; stop == Stop::Refused(Refusal::BadBook));
             assert!(rt; office.makes().is_ok());
             0
         }
-    }
-}
-
-/// Loads the new book, or creates it if there is none and none was acknowledged; the book then
-/// takes a command.
-pub fn holds_new<O: Office>(rt: &impl Abort, office: &mut O, kept: Kept) -> Kept {
-    let found = found(rt, office);
+    };
     assert!(rt; kept.allows(found));
     assert!(rt; office.shows() == Some((0, 0)));
     assert!(rt; office.acts("cause,N1,3,STORM,,,,") == Ok(1));

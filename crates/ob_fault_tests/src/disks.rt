@@ -44,11 +44,8 @@ pub fn copies(rt: &impl Abort, alloc: Global, files: &Pair, which: Which, calls:
 
 /// Answers whether one of the files answers no further call.
 pub fn have_stopped(files: &mut Pair) -> bool {
-    has_stopped(&mut files.log) || has_stopped(&mut files.db)
-}
-
-fn has_stopped(file: &mut Fuse<Memory>) -> bool {
-    !file.may_be_used() || file.len().is_err()
+    let may_be_used = files.log.may_be_used() && files.db.may_be_used();
+    !may_be_used || files.log.len().is_err() || files.db.len().is_err()
 }
 
 /// Drops from a file what was not synced. Answers whether this changed the file.
@@ -62,12 +59,10 @@ pub fn crash(rt: &impl Abort, alloc: Global, file: &mut Fuse<Memory>) -> bool {
 
 /// Makes the files usable again: a file whose syncing failed loses what was not synced.
 pub fn restart(files: &mut Pair) {
-    recover(&mut files.log);
-    recover(&mut files.db);
-}
-
-fn recover(file: &mut Fuse<Memory>) {
-    if !file.may_be_used() {
-        file.crash();
+    if !files.log.may_be_used() {
+        files.log.crash();
+    }
+    if !files.db.may_be_used() {
+        files.db.crash();
     }
 }

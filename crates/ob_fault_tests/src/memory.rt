@@ -1,5 +1,5 @@
 //! Checks of the book after a call that was refused memory.
-use crate::office::{Office, Views};
+use crate::office::Office;
 use crate::scripts::total_of;
 use crate::sending::{STORE, is_without_book};
 use crate::tasks::Kept;
@@ -28,38 +28,23 @@ pub fn load<O: Office>(rt: &impl Abort, office: &mut O) -> Result<(), Stop> {
     office.loads()
 }
 
-// Checks that the book and its tables are as they were.
-fn is_as_before<O: Office>(rt: &impl Abort, office: &mut O, before: Option<Views>) {
-    assert!(rt; office.views() == before);
-    assert!(rt; office.audits() == Ok(true));
-    assert!(rt; office.loads() == Ok(()));
-    assert!(rt; office.views() == before);
-}
-
-// Checks that there is no book until it is loaded, and that it then has what is kept. False if it
-// can't be read over these files.
-fn is_loaded_again<O: Office>(rt: &impl Abort, office: &mut O, kept: Kept) -> bool {
-    assert!(rt; is_without_book(office));
-    let found = office.loads();
-    if found == Err(STORE) {
-        assert!(rt; is_without_book(office));
-        return false;
-    }
-    assert!(rt; found == Ok(()));
-    assert!(rt; holds(office, kept));
-    true
-}
-
-/// Checks the book after a call that was refused memory: it has the least that is kept. If the
-/// store failed because of that, the book has to be loaded, and then has what is kept. False if it
-/// can't be read over these files.
+/// Checks the book after a call that was refused memory: it has the least that is kept, and book
+/// and tables are as they were. If the store failed because of that, there is no book until it is
+/// loaded, and it then has what is kept. False if it can't be read over these files.
 pub fn goes_on<O: Office>(rt: &impl Abort, office: &mut O, stop: Stop, kept: Kept) -> bool {
     if stop == STORE {
-        return is_loaded_again(rt, office, kept);
+        assert!(rt; is_without_book(office));
+        let found = office.loads();
+        if found == Err(STORE) {
+            assert!(rt; is_without_book(office));
+            return false;
+        }
+        assert!(rt; found == Ok(()) && holds(office, kept));
+        return true;
     }
-    assert!(rt; stop == NO_MEMORY);
-    assert!(rt; holds(office, Kept::all(kept.least)));
+    assert!(rt; stop == NO_MEMORY && holds(office, Kept::all(kept.least)));
     let before = office.views();
-    is_as_before(rt, office, before);
+    assert!(rt; office.audits() == Ok(true) && office.views() == before);
+    assert!(rt; office.loads() == Ok(()) && office.views() == before);
     true
 }

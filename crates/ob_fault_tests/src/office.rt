@@ -63,11 +63,8 @@ pub trait Office {
     /// Gives the moved amounts to a sink without room.
     fn hands_on(&mut self) -> Result<u64, Stop>;
 
-    /// Imports a text.
-    fn takes(&mut self, alloc: Global, text: &[u8]) -> Report;
-
-    /// Imports all of a text or nothing.
-    fn takes_whole(&mut self, alloc: Global, text: &[u8]) -> Report;
+    /// Imports a text, row by row, or all of it or nothing.
+    fn takes(&mut self, alloc: Global, text: &[u8], whole: bool) -> Report;
 
     /// Serves a stream of these bytes. Answers the written bytes, and the fault that ended the
     /// stream.
@@ -162,12 +159,12 @@ impl<S: Alter, T: Timeline> Office for Keeper<S, T> {
         self.moves_out(&mut NoRoom)
     }
 
-    fn takes(&mut self, alloc: Global, text: &[u8]) -> Report {
-        import_text(alloc, text, self)
-    }
-
-    fn takes_whole(&mut self, alloc: Global, text: &[u8]) -> Report {
-        import_whole(alloc, &mut Watched::new(text), self, &mut Silent)
+    fn takes(&mut self, alloc: Global, text: &[u8], whole: bool) -> Report {
+        if whole {
+            import_whole(alloc, &mut Watched::new(text), self, &mut Silent)
+        } else {
+            import_text(alloc, text, self)
+        }
     }
 
     fn serves(&mut self, alloc: Global, bytes: &[u8]) -> (Vec<u8>, Option<Stop>) {

@@ -6,15 +6,6 @@ use crate::tasks::{Kept, Task, run};
 use std::alloc::Global;
 use std::process::Abort;
 
-// The same task from what is kept.
-fn from_there(task: Task, kept: Kept) -> Task {
-    match task {
-        Task::Read(_) => Task::Read(kept),
-        Task::Upgrade(_) => Task::Upgrade(kept),
-        _ => Task::Act(kept),
-    }
-}
-
 // Opens the files and goes on with a task from where it was. Answers what is kept, and the files as
 // the next start finds them.
 fn again(
@@ -24,7 +15,12 @@ fn again(
     task: Task,
     kept: Kept,
 ) -> (Option<Kept>, Pair) {
-    let (found, mut left) = run(rt, alloc, files, from_there(task, kept));
+    let task = match task {
+        Task::Read(_) => Task::Read(kept),
+        Task::Upgrade(_) => Task::Upgrade(kept),
+        _ => Task::Act(kept),
+    };
+    let (found, mut left) = run(rt, alloc, files, task);
     restart(&mut left);
     (found, left)
 }
@@ -75,17 +71,14 @@ fn old_files(rt: &impl Abort, alloc: Global) -> Pair {
 }
 
 // Upgrades old files three times, of which at most one doesn't reach the end.
-fn is_upgraded(rt: &impl Abort, alloc: Global) {
-    let none = Kept::all(0);
-    let task = Task::Upgrade(none);
-    let (first, files) = again(rt, alloc, old_files(rt, alloc), task, none);
-    let (second, files) = again(rt, alloc, files, task, first.unwrap_or(none));
-    let kept = second.or(first).unwrap_or(none);
-    let (third, _) = again(rt, alloc, files, task, kept);
-    assert!(rt; has(third.or(second), 1));
-}
-
 #[test]
 fn a_migration_where_memory_is_refused(rt: HostRuntime) {
-    is_upgraded(&rt, rt.alloc());
+    let none = Kept::all(0);
+    let task = Task::Upgrade(none);
+    let files = old_files(&rt, rt.alloc());
+    let (first, files) = again(&rt, rt.alloc(), files, task, none);
+    let (second, files) = again(&rt, rt.alloc(), files, task, first.unwrap_or(none));
+    let kept = second.or(first).unwrap_or(none);
+    let (third, _) = again(&rt, rt.alloc(), files, task, kept);
+    assert!(rt; has(third.or(second), 1));
 }

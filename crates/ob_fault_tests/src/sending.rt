@@ -21,15 +21,6 @@ pub const AFTER: u32 = 26;
 /// The customer-seconds of the book of the outage.
 pub const TOTAL: u64 = 9_000;
 
-// The customer-seconds of the book with this many commands, the last of which may be `last`.
-fn total_of(accepted: u32, last: Last) -> u64 {
-    if accepted == BEFORE {
-        TOTAL
-    } else {
-        last.total
-    }
-}
-
 /// Creates a book with the outage. Answers whether no call failed.
 pub fn is_made<O: Office>(office: &mut O) -> bool {
     let mut is_told = office.makes().is_ok();
@@ -73,8 +64,12 @@ pub fn send<O: Office>(rt: &impl Abort, office: &mut O, last: Last) -> Kept {
 pub fn holds<O: Office>(rt: &impl Abort, office: &mut O, kept: Kept, last: Last) -> Kept {
     assert!(rt; office.loads().is_ok());
     let (accepted, total) = office.shows().unwrap_or((0, 0));
-    assert!(rt; kept.allows(accepted));
-    assert!(rt; total == total_of(accepted, last));
+    let wanted = if accepted == BEFORE {
+        TOTAL
+    } else {
+        last.total
+    };
+    assert!(rt; kept.allows(accepted) && total == wanted);
     assert!(rt; office.acts(last.line) == Ok(AFTER));
     assert!(rt; office.shows() == Some((AFTER, last.total)));
     Kept::all(accepted)
@@ -89,9 +84,9 @@ pub struct Imported {
     pub stop: Option<Stop>,
 }
 
-/// Imports a text and answers its report.
-pub fn take_rows<O: Office>(alloc: Global, office: &mut O, text: &[u8]) -> Imported {
-    match office.takes(alloc, text) {
+/// Imports a text, row by row or as a whole, and answers its report.
+pub fn take_rows<O: Office>(alloc: Global, office: &mut O, text: &[u8], whole: bool) -> Imported {
+    match office.takes(alloc, text, whole) {
         Ok(it) => Imported {
             again: it.again,
             rows: it.added.saturating_add(it.again),

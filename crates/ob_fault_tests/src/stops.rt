@@ -11,8 +11,7 @@ use std::process::Abort;
 fn held(task: Task, kept: Option<Kept>) -> Task {
     match task {
         Task::Make => Task::HoldNew(kept.unwrap_or(Kept::all(0))),
-        Task::ImportWhole => Task::HoldAll(kept.unwrap_or(Kept::all(BEFORE))),
-        Task::Import => Task::HoldRows(kept.unwrap_or(Kept::all(BEFORE))),
+        Task::Import(whole) => Task::HoldRows(kept.unwrap_or(Kept::all(BEFORE)), whole),
         Task::Migrate => Task::HoldUpgraded(kept.unwrap_or(Kept::all(0))),
         Task::Send(last) => Task::Hold(kept.unwrap_or(Kept::all(BEFORE)), last),
         _ => Task::Hold(kept.unwrap_or(Kept::all(BEFORE)), CORRECTION),
@@ -68,22 +67,24 @@ fn stopped(rt: &impl Abort, alloc: Global, files: &Pair, which: Which, task: Tas
     panic!(rt; "calls without end");
 }
 
-// The files of no database, or those that a first task leaves.
-fn files_of(rt: &impl Abort, alloc: Global, first: Option<Task>) -> Pair {
-    let Some(task) = first else {
-        return blank(alloc);
-    };
-    let (kept, files) = run(rt, alloc, blank(alloc), task);
-    assert!(rt; kept.unwrap_or(Kept::all(0)).least > 0);
-    files
-}
+// A first task, a task over the files that it leaves, or over those of no database, and what is
+// then acknowledged.
+type Stopped = (Option<Task>, Task, u32);
 
-// Stops a task in this way over the files that another task leaves: at the calls of the log, and then
-// at those of the database file.
-fn stopped_over(rt: &impl Abort, alloc: Global, first: Option<Task>, task: Task, wanted: u32) {
-    let files = files_of(rt, alloc, first);
-    stopped(rt, alloc, &files, Which::Log, task, wanted);
-    stopped(rt, alloc, &files, Which::Db, task, wanted);
+// Stops each task in this way: at the calls of the log, and then at those of the database file.
+fn are_stopped(rt: &impl Abort, alloc: Global, tasks: &[Stopped]) {
+    for (first, task, wanted) in tasks {
+        let files = match first {
+            Some(first) => {
+                let (kept, files) = run(rt, alloc, blank(alloc), *first);
+                assert!(rt; kept.unwrap_or(Kept::all(0)).least > 0);
+                files
+            }
+            None => blank(alloc),
+        };
+        stopped(rt, alloc, &files, Which::Log, *task, *wanted);
+        stopped(rt, alloc, &files, Which::Db, *task, *wanted);
+    }
 }
 
 // A book with the outage, and the same with tables of version 1.
@@ -91,42 +92,34 @@ const OUTAGE: Option<Task> = Some(Task::Outage);
 
 const OLD: Option<Task> = Some(Task::Old);
 
-#[test]
-fn a_command_over_files_that_stop(rt: HostRuntime) {
-    stopped_over(&rt, rt.alloc(), OUTAGE, Task::Send(CORRECTION), AFTER);
-}
+// A correction, a device that joins, and a life.
+const COMMANDS: &[Stopped] = &[
+    (OUTAGE, Task::Send(CORRECTION), AFTER),
+    (OUTAGE, Task::Send(JOINING), AFTER),
+    (OUTAGE, Task::Send(LEAVING), AFTER),
+];
 
 #[test]
-fn a_device_that_joins_over_files_that_stop(rt: HostRuntime) {
-    stopped_over(&rt, rt.alloc(), OUTAGE, Task::Send(JOINING), AFTER);
+fn commands_over_files_that_stop(rt: HostRuntime) {
+    are_stopped(&rt, rt.alloc(), COMMANDS);
 }
 
-#[test]
-fn a_life_over_files_that_stop(rt: HostRuntime) {
-    stopped_over(&rt, rt.alloc(), OUTAGE, Task::Send(LEAVING), AFTER);
-}
+// A request, an import row by row, and one of all rows or none.
+const STREAMS: &[Stopped] = &[
+    (OUTAGE, Task::Serve, AFTER),
+    (OUTAGE, Task::Import(false), IMPORTED),
+    (OUTAGE, Task::Import(true), IMPORTED),
+];
 
 #[test]
-fn a_request_over_files_that_stop(rt: HostRuntime) {
-    stopped_over(&rt, rt.alloc(), OUTAGE, Task::Serve, AFTER);
+fn streams_over_files_that_stop(rt: HostRuntime) {
+    are_stopped(&rt, rt.alloc(), STREAMS);
 }
 
-#[test]
-fn an_import_over_files_that_stop(rt: HostRuntime) {
-    stopped_over(&rt, rt.alloc(), OUTAGE, Task::Import, IMPORTED);
-}
+// A new book, and a migration.
+const BOOKS: &[Stopped] = &[(None, Task::Make, 1), (OLD, Task::Migrate, 1)];
 
 #[test]
-fn a_whole_import_over_files_that_stop(rt: HostRuntime) {
-    stopped_over(&rt, rt.alloc(), OUTAGE, Task::ImportWhole, IMPORTED);
-}
-
-#[test]
-fn a_new_book_over_files_that_stop(rt: HostRuntime) {
-    stopped_over(&rt, rt.alloc(), None, Task::Make, 1);
-}
-
-#[test]
-fn a_migration_over_files_that_stop(rt: HostRuntime) {
-    stopped_over(&rt, rt.alloc(), OLD, Task::Migrate, 1);
+fn books_over_files_that_stop(rt: HostRuntime) {
+    are_stopped(&rt, rt.alloc(), BOOKS);
 }

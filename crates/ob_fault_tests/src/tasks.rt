@@ -1,6 +1,6 @@
 //! The tasks of a `Keeper` over files that may stop, from their opening to their closing.
 use crate::creations::{holds_new, make};
-use crate::importing::{holds_all, holds_rows, import, import_all};
+use crate::importing::{holds_rows, import};
 use crate::office::{Office, Trial, over};
 use crate::scripts::Last;
 use crate::sending::{BEFORE, holds, is_made, send};
@@ -8,7 +8,7 @@ use crate::serving::serve;
 use crate::upgrades::{holds_upgraded, migrate, upgrade};
 use crate::working::{act, read};
 use ob_harness::texts::TO_VERSION_1;
-use sqlite::{Alter, Connection, FileStore, Files, Options};
+use sqlite::{Alter, Connection, Files, Options};
 use sqlite_disk::Disk;
 use std::alloc::Global;
 use std::process::Abort;
@@ -54,14 +54,10 @@ pub enum Task {
     Hold(Kept, Last),
     /// Load the book and serve it a stream with the correction.
     Serve,
-    /// Load the book and import rows into it.
-    Import,
+    /// Load the book and import rows into it, one by one, or all or none.
+    Import(bool),
     /// Load the book with the rows that are kept, and import the others.
-    HoldRows(Kept),
-    /// Load the book and import all rows into it, or none.
-    ImportWhole,
-    /// Load the book with all rows or none, and import them.
-    HoldAll(Kept),
+    HoldRows(Kept, bool),
     /// Create a book.
     Make,
     /// Load the new book that is kept, or create it, and go on.
@@ -95,17 +91,13 @@ pub fn run<D: Disk + Drop>(
     match Connection::open_files(alloc, files, Options::new(7)) {
         Ok(conn) => {
             let (kept, conn) = worked(rt, alloc, conn, task);
-            (Some(kept), closed(conn))
+            match conn.close_files() {
+                Ok(files) => (Some(kept), files),
+                // if they stop, they are left as they are
+                Err((_, store)) => (Some(kept), store.close()),
+            }
         }
         Err((_, left)) => (None, left.into_files()),
-    }
-}
-
-// Closes the files; if they stop, they are left as they are.
-fn closed<D: Disk + Drop>(conn: Connection<FileStore<D>>) -> Files<D> {
-    match conn.close_files() {
-        Ok(files) => files,
-        Err((_, store)) => store.close(),
     }
 }
 
@@ -148,10 +140,8 @@ fn done<O: Office>(rt: &impl Abort, alloc: Global, office: &mut O, task: Task) -
         Task::Send(last) => send(rt, office, last),
         Task::Hold(kept, last) => holds(rt, office, kept, last),
         Task::Serve => serve(rt, alloc, office),
-        Task::Import => import(rt, alloc, office),
-        Task::HoldRows(kept) => holds_rows(rt, alloc, office, kept),
-        Task::ImportWhole => import_all(rt, alloc, office),
-        Task::HoldAll(kept) => holds_all(rt, alloc, office, kept),
+        Task::Import(whole) => import(rt, alloc, office, whole),
+        Task::HoldRows(kept, whole) => holds_rows(rt, alloc, office, kept, whole),
         Task::Make => make(rt, office),
         Task::HoldNew(kept) => holds_new(rt, office, kept),
         Task::Old => Kept::all(u32::from(is_made(office))),

@@ -35,19 +35,7 @@ pub fn migrate<O: Office>(rt: &impl Abort, office: &mut O) -> Kept {
 /// Loads the book of version 2, or finds that of version 1 if no migration was acknowledged. That
 /// book is then migrated to version 2, has all that it had, and goes on.
 pub fn holds_upgraded<O: Office>(rt: &impl Abort, office: &mut O, kept: Kept) -> Kept {
-    let found = found(rt, office);
-    assert!(rt; kept.allows(found));
-    assert!(rt; office.shows() == OUTAGE);
-    assert!(rt; office.audits() == Ok(true));
-    assert!(rt; office.migrates() == Ok(false));
-    assert!(rt; office.acts(CORRECTION.line) == Ok(AFTER));
-    assert!(rt; office.shows() == Some((AFTER, CORRECTION.total)));
-    Kept::all(found)
-}
-
-// The number of books of version 2 that the files hold; afterwards one is loaded.
-fn found<O: Office>(rt: &impl Abort, office: &mut O) -> u32 {
-    match office.loads() {
+    let found = match office.loads() {
         Ok(()) => 1,
         Err(stop) => {
             assert!(rt; stop == OLD);
@@ -55,7 +43,14 @@ fn found<O: Office>(rt: &impl Abort, office: &mut O) -> u32 {
             assert!(rt; office.loads().is_ok());
             0
         }
-    }
+    };
+    assert!(rt; kept.allows(found));
+    assert!(rt; office.shows() == OUTAGE);
+    assert!(rt; office.audits() == Ok(true));
+    assert!(rt; office.migrates() == Ok(false));
+    assert!(rt; office.acts(CORRECTION.line) == Ok(AFTER));
+    assert!(rt; office.shows() == Some((AFTER, CORRECTION.total)));
+    Kept::all(found)
 }
 
 /// Loads the book of version 2 if that is kept, or migrates that of version 1 first. Answers what

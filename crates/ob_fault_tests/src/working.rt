@@ -83,14 +83,6 @@ pub fn act<O: Office>(rt: &impl Abort, office: &mut O, kept: Kept) -> Kept {
     Kept::all(no)
 }
 
-// Imports all rows, of which `before` were in the book, and checks the report and the book.
-fn is_imported<O: Office>(rt: &impl Abort, alloc: Global, office: &mut O, before: u32) {
-    let found = take_rows(alloc, office, ROWS.as_bytes());
-    assert!(rt; found.stop == None);
-    assert!(rt; found.again == before && found.rows == COMMANDS);
-    assert!(rt; holds(office, Kept::all(COMMANDS)));
-}
-
 /// Imports the rows of all commands. If that is refused memory, the acknowledged rows are kept, and
 /// the same import goes on after them.
 pub fn read<O: Office>(rt: &impl Abort, alloc: Global, office: &mut O, kept: Kept) -> Kept {
@@ -98,7 +90,7 @@ pub fn read<O: Office>(rt: &impl Abort, alloc: Global, office: &mut O, kept: Kep
         return kept;
     }
     let before = accepted(office);
-    let found = take_rows(alloc, office, ROWS.as_bytes());
+    let found = take_rows(alloc, office, ROWS.as_bytes(), false);
     let kept = Kept::or_one_more(before.max(found.rows));
     assert!(rt; found.again == before.min(found.rows));
     match found.stop {
@@ -108,7 +100,9 @@ pub fn read<O: Office>(rt: &impl Abort, alloc: Global, office: &mut O, kept: Kep
                 return kept;
             }
             let before = accepted(office);
-            is_imported(rt, alloc, office, before);
+            let found = take_rows(alloc, office, ROWS.as_bytes(), false);
+            assert!(rt; found.stop == None && found.again == before && found.rows == COMMANDS);
+            assert!(rt; holds(office, Kept::all(COMMANDS)));
         }
     }
     Kept::all(COMMANDS)
