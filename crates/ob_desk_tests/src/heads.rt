@@ -34,11 +34,14 @@ POST /commands HTTP/1.1|Host: localhost|Content-Length: 48||{"kind":"cause","ref
 const STORM: &'static str =
     r#"POST /commands HTTP/1.1|Host: localhost|Content-Length: 49||{"kind":"cause","ref":"R1","f1":"3","f2":"STORM"}"#;
 
-struct Heads;
+#[derive(Drop)]
+struct Heads {
+    lines: &'static str,
+}
 
 impl Trial for Heads {
     fn run<A: Abort, D: Desk>(&self, rt: &A, alloc: Global, desk: &mut D) -> Tried {
-        for line in STREAMS.lines() {
+        for line in self.lines.lines() {
             let line = line.replace(alloc, "&", STORM)?;
             let line = line.replace(alloc, "|", "\r\n")?;
             let (asked, wanted) = line.split_once(" => ").unwrap_or(("", ""));
@@ -60,7 +63,7 @@ impl Trial for Heads {
 
 #[test]
 fn heads_and_ends_of_streams(rt: HostRuntime) -> Result<(), AllocError> {
-    over_a_store(&rt, rt.alloc(), true, &Heads)
+    over_a_store(&rt, rt.alloc(), true, &Heads { lines: STREAMS })
 }
 
 const FIELDS_TOO_LARGE: &'static [u8] =
@@ -121,10 +124,14 @@ fn ends_so(rt: &impl Abort, alloc: Global, long: &Long) -> Result<(), AllocError
     over_a_store(rt, alloc, true, &Streams { rows, commands: 0 })
 }
 
-#[test]
-fn long_streams(rt: HostRuntime) -> Result<(), AllocError> {
-    for long in LONG {
-        ends_so(&rt, rt.alloc(), long)?;
+fn end_so(rt: &impl Abort, alloc: Global, rows: &[Long]) -> Result<(), AllocError> {
+    for long in rows {
+        ends_so(rt, alloc, long)?;
     }
     Ok(())
+}
+
+#[test]
+fn long_streams(rt: HostRuntime) -> Result<(), AllocError> {
+    end_so(&rt, rt.alloc(), LONG)
 }

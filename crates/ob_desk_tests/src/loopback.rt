@@ -160,14 +160,18 @@ const WITHOUT_A_BOOK: Case = Case {
     ..ONE
 };
 
-// Each over a new book, or without one.
 const CASES: &'static [Case] = &[ONE, BEHIND_A_CUT, TWO_OF_THREE, ALL, WITHOUT_A_BOOK];
+
+// Checks each over a new book, or without one.
+fn are_served(rt: &impl Abort, host: &HostRuntime, cases: &[Case]) -> Result<(), AllocError> {
+    for case in cases {
+        let served = Served { host, case };
+        over_a_store(rt, host.alloc(), case.commands.is_some(), &served)?;
+    }
+    Ok(())
+}
 
 #[test]
 fn streams_over_a_socket(rt: HostRuntime) -> Result<(), AllocError> {
-    for case in CASES {
-        let served = Served { host: &rt, case };
-        over_a_store(&rt, rt.alloc(), case.commands.is_some(), &served)?;
-    }
-    Ok(())
+    are_served(&rt, &rt, CASES)
 }

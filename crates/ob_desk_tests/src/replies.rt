@@ -86,14 +86,18 @@ fn says(rt: &impl Abort, alloc: Global, line: &str) -> Result<(), Fail> {
     Ok(())
 }
 
+fn say(rt: &impl Abort, alloc: Global, lines: &str) -> Result<(), Fail> {
+    for line in lines.lines() {
+        says(rt, alloc, line)?;
+    }
+    Ok(())
+}
+
 #[test]
 fn bodies_of_commands_and_plans(rt: HostRuntime) -> Result<(), Fail> {
     json_commands_law();
     json_plans_law();
-    for line in BODIES.lines() {
-        says(&rt, rt.alloc(), line)?;
-    }
-    Ok(())
+    say(&rt, rt.alloc(), BODIES)
 }
 
 // Bytes that are no JSON.
@@ -110,11 +114,15 @@ fn is_refused(rt: &impl Abort, alloc: Global, body: &[u8]) {
     assert!(rt; read_command(alloc, body).err() == refused);
 }
 
+fn are_refused(rt: &impl Abort, alloc: Global, bodies: &[&[u8]]) {
+    for body in bodies {
+        is_refused(rt, alloc, body);
+    }
+}
+
 #[test]
 fn bytes_that_are_no_json(rt: HostRuntime) {
-    for body in NO_JSON {
-        is_refused(&rt, rt.alloc(), body);
-    }
+    are_refused(&rt, rt.alloc(), NO_JSON);
 }
 
 const LEAST: Moved = Moved {

@@ -111,21 +111,28 @@ POST /c HTTP/1.1|Host: a|Expect: 100-continue|Content-Length: 0|| => POST /c 0;e
 POST /c HTTP/1.0|Expect: 100-continue|Content-Length: 1||1 => POST /c 1 closes;
 ";
 
-#[test]
-fn heads(rt: HostRuntime) -> Result<(), AllocError> {
-    for line in HEADS.lines() {
-        let line = line.replace(rt.alloc(), "|", "\r\n")?;
+fn lines_are_read(rt: &impl Abort, alloc: Global, lines: &str) -> Result<(), AllocError> {
+    for line in lines.lines() {
+        let line = line.replace(alloc, "|", "\r\n")?;
         let (bytes, told) = line.split_once(" => ").unwrap_or(("", ""));
-        are_read(&rt, rt.alloc(), bytes.as_bytes(), 4_096, told)?;
-        are_read(&rt, rt.alloc(), bytes.as_bytes(), 1, told)?;
+        are_read(rt, alloc, bytes.as_bytes(), 4_096, told)?;
+        are_read(rt, alloc, bytes.as_bytes(), 1, told)?;
     }
     Ok(())
 }
 
-// Texts with a repeated middle part, and how they are read: three requests, one with LF alone; then
+#[test]
+fn heads(rt: HostRuntime) -> Result<(), AllocError> {
+    lines_are_read(&rt, rt.alloc(), HEADS)
+}
+
+// A text with a repeated middle part, and how it is read.
+type Row = (Many, &'static str);
+
+// Three requests, one with LF alone; then
 // heads with 64 field lines and 65, with 16,383 bytes of a head and 16,384 that don't end it, and
 // with 16,384 bytes that do and one more.
-const BOUNDS: &[(Many, &'static str)] = &[
+const BOUNDS: &[Row] = &[
     (
         (STORM, b"GET /totals HTTP/1.1\nHost: a\n\n", 1, STORM),
         "POST /commands 49;GET /totals 0;POST /commands 49;end",
@@ -150,13 +157,17 @@ const BOUNDS: &[(Many, &'static str)] = &[
     ),
 ];
 
-#[test]
-fn heads_at_the_bounds(rt: HostRuntime) -> Result<(), AllocError> {
-    for (parts, told) in BOUNDS {
-        let text = many(rt.alloc(), parts)?;
-        are_read(&rt, rt.alloc(), &text, 4_096, told)?;
+fn rows_are_read(rt: &impl Abort, alloc: Global, rows: &[Row]) -> Result<(), AllocError> {
+    for (parts, told) in rows {
+        let text = many(alloc, parts)?;
+        are_read(rt, alloc, &text, 4_096, told)?;
     }
     Ok(())
+}
+
+#[test]
+fn heads_at_the_bounds(rt: HostRuntime) -> Result<(), AllocError> {
+    rows_are_read(&rt, rt.alloc(), BOUNDS)
 }
 
 #[test]

@@ -104,12 +104,15 @@ const NEEDY: &[&'static [u8]] = &[
 
 // Without a book a request that needs one is answered 503, which ends its stream, also if that
 // reply can't be written.
-struct Needy;
+#[derive(Drop)]
+struct Needy {
+    requests: &'static [&'static [u8]],
+}
 
 impl Trial for Needy {
     fn run<A: Abort, D: Desk>(&self, rt: &A, alloc: Global, desk: &mut D) -> Tried {
         let mut no = 0usize;
-        for request in NEEDY {
+        for request in self.requests {
             no = no.saturating_add(1);
             let parts: Many = (request, NOTHING, 1, b"");
             let text = many(alloc, &parts)?;
@@ -153,6 +156,6 @@ impl Trial for Alone {
 
 #[test]
 fn without_a_book_and_without_a_stream(rt: HostRuntime) -> Result<(), AllocError> {
-    over_a_store(&rt, rt.alloc(), false, &Needy)?;
+    over_a_store(&rt, rt.alloc(), false, &Needy { requests: NEEDY })?;
     over_a_store(&rt, rt.alloc(), true, &Alone)
 }

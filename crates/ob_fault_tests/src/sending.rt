@@ -1,6 +1,6 @@
 //! A command that is sent to a book whose store may stop, and the book that is then kept.
 use crate::office::Office;
-use crate::scripts::{Last, ROWS};
+use crate::scripts::Last;
 use crate::tasks::Kept;
 use ob_net::{Fault, Stop};
 use std::alloc::Global;
@@ -21,10 +21,10 @@ pub const AFTER: u32 = 26;
 /// The customer-seconds of the book of the outage.
 pub const TOTAL: u64 = 9_000;
 
-/// Creates a book with the outage. Answers whether no call failed.
-pub fn is_made<O: Office>(office: &mut O) -> bool {
+/// Creates a book with the outage, the first of these rows. Answers whether no call failed.
+pub fn is_made<O: Office>(office: &mut O, rows: &str) -> bool {
     let mut is_told = office.makes().is_ok();
-    for line in ROWS.lines().skip(1).take(25) {
+    for line in rows.lines().skip(1).take(25) {
         is_told = is_told && office.acts(line).is_ok();
     }
     is_told && office.shows() == Some((BEFORE, TOTAL))

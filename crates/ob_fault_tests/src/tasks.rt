@@ -2,7 +2,7 @@
 use crate::creations::{holds_new, make};
 use crate::importing::{holds_rows, import};
 use crate::office::{Office, Trial, over};
-use crate::scripts::Last;
+use crate::scripts::{Last, ROWS};
 use crate::sending::{BEFORE, holds, is_made, send};
 use crate::serving::serve;
 use crate::upgrades::{holds_upgraded, migrate, upgrade};
@@ -134,7 +134,7 @@ fn worked<S: Alter + Drop>(
 fn done<O: Office>(rt: &impl Abort, alloc: Global, office: &mut O, task: Task) -> Kept {
     match task {
         Task::Outage => {
-            assert!(rt; is_made(office));
+            assert!(rt; is_made(office, ROWS));
             Kept::all(BEFORE)
         }
         Task::Send(last) => send(rt, office, last),
@@ -144,7 +144,7 @@ fn done<O: Office>(rt: &impl Abort, alloc: Global, office: &mut O, task: Task) -
         Task::HoldRows(kept, whole) => holds_rows(rt, alloc, office, kept, whole),
         Task::Make => make(rt, office),
         Task::HoldNew(kept) => holds_new(rt, office, kept),
-        Task::Old => Kept::all(u32::from(is_made(office))),
+        Task::Old => Kept::all(u32::from(is_made(office, ROWS))),
         Task::Migrate => migrate(rt, office),
         Task::HoldUpgraded(kept) => holds_upgraded(rt, office, kept),
         Task::Upgrade(kept) => upgrade(rt, office, kept),

@@ -72,8 +72,12 @@ pub fn act<O: Office>(rt: &impl Abort, office: &mut O, kept: Kept) -> Kept {
     if !begins(rt, office, kept) {
         return kept;
     }
+    acts_on(rt, office, ROWS)
+}
+
+fn acts_on<O: Office>(rt: &impl Abort, office: &mut O, rows: &str) -> Kept {
     let mut no = 0u32;
-    for line in ROWS.lines().skip(1) {
+    for line in rows.lines().skip(1) {
         no = no.saturating_add(1);
         let is_sent = accepted(office) < no || no == COMMANDS;
         if is_sent && !sends(rt, office, line, no) {

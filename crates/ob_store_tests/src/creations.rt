@@ -3,7 +3,7 @@
 use crate::books::{OUTAGE_BOOK, TWO_FEEDERS_BOOK};
 use crate::office::{BAD_BOOK, NO_OLD_BOOK, OLD_VERSION};
 use crate::scripts::TWO_FEEDERS;
-use crate::steps::{NEW, Step, tell};
+use crate::steps::{NEW, Step, tell_all};
 use ob_net::{Refusal, Stop};
 
 // A book of another period, which can't be created.
@@ -109,8 +109,5 @@ const CREATIONS: &[&[&[Step]]] = &[
 
 #[test]
 fn new_books_and_loads(rt: HostRuntime) -> Result<(), Stop> {
-    for parts in CREATIONS {
-        tell(&rt, rt.alloc(), parts)?;
-    }
-    Ok(())
+    tell_all(&rt, rt.alloc(), CREATIONS)
 }

@@ -3,7 +3,7 @@
 use crate::books::OUTAGE_BOOK;
 use crate::office::{BAD_BOOK, NO_OLD_BOOK, OLD_VERSION};
 use crate::scripts::{CORRECTED, JOINS_IN_OUTAGE, OUTAGE, TWO_FEEDERS};
-use crate::steps::{NEW, Step, spoil, tell};
+use crate::steps::{NEW, Step, spoil, tell_all};
 use ob_harness::texts::TO_VERSION_1;
 use ob_net::Stop;
 
@@ -225,10 +225,7 @@ const MIGRATIONS: &[&[&[Step]]] = &[
 
 #[test]
 fn migrations(rt: HostRuntime) -> Result<(), Stop> {
-    for parts in MIGRATIONS {
-        tell(&rt, rt.alloc(), parts)?;
-    }
-    Ok(())
+    tell_all(&rt, rt.alloc(), MIGRATIONS)
 }
 
 #[test]

@@ -79,6 +79,14 @@ pub fn tell(rt: &impl Abort, alloc: Global, parts: &[&[Step]]) -> Result<(), Sto
     Ok(())
 }
 
+/// Checks several such lists of parts, each with a `Keeper` of its own.
+pub fn tell_all(rt: &impl Abort, alloc: Global, lists: &[&[&[Step]]]) -> Result<(), Stop> {
+    for parts in lists {
+        tell(rt, alloc, parts)?;
+    }
+    Ok(())
+}
+
 /// Checks each change of the tables of a book and, after ` => `, the answer to an audit then; and
 /// the steps that follow each.
 pub fn spoil(

@@ -57,13 +57,17 @@ fn becomes(rt: &impl Abort, alloc: Global, line: &str) -> Result<(), Fail> {
     Ok(())
 }
 
+fn become_so(rt: &impl Abort, alloc: Global, lines: &str) -> Result<(), Fail> {
+    for line in lines.lines() {
+        becomes(rt, alloc, line)?;
+    }
+    Ok(())
+}
+
 #[test]
 fn bodies(rt: HostRuntime) -> Result<(), Fail> {
     version_law();
-    for line in BODIES.lines() {
-        becomes(&rt, rt.alloc(), line)?;
-    }
-    Ok(())
+    become_so(&rt, rt.alloc(), BODIES)
 }
 
 // With each allocation refused in turn, the call either returns its value or reports refused
@@ -91,8 +95,8 @@ never device B1 GRID S1 closed 0 1704073200
 never life T1 0 -
 ";
 
-fn fit(rt: &impl Abort, sheet: &Sheet, is_first: bool) -> Result<(), Fail> {
-    for line in COMMANDS.lines() {
+fn fit(rt: &impl Abort, sheet: &Sheet, lines: &str, is_first: bool) -> Result<(), Fail> {
+    for line in lines.lines() {
         let (when, body) = line.split_once(" ").ok_or("a line")?;
         let command = read_body(body.as_bytes()).ok_or("a command")?;
         let wanted = when == "always" || (when == "first" && is_first);
@@ -105,12 +109,12 @@ fn fit(rt: &impl Abort, sheet: &Sheet, is_first: bool) -> Result<(), Fail> {
 #[test]
 fn parts_come_first(rt: HostRuntime) -> Result<(), Fail> {
     let mut sheet = Sheet::new(rt.alloc());
-    fit(&rt, &sheet, true)?;
+    fit(&rt, &sheet, COMMANDS, true)?;
     let crew = Crew::read(b"K1").ok_or("a crew")?;
     assert!(rt; !sheet.is_full());
     sheet.reserve_one()?;
     sheet.enter(0, Opened, 5, 3, crew);
-    fit(&rt, &sheet, false)?;
+    fit(&rt, &sheet, COMMANDS, false)?;
     assert!(rt; sheet.withdraw(1, 1).is_ok());
-    fit(&rt, &sheet, false)
+    fit(&rt, &sheet, COMMANDS, false)
 }
