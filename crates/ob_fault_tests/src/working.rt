@@ -75,6 +75,7 @@ pub fn act<O: Office>(rt: &impl Abort, office: &mut O, kept: Kept) -> Kept {
     acts_on(rt, office, ROWS)
 }
 
+// The same with these rows, on the book that is there.
 fn acts_on<O: Office>(rt: &impl Abort, office: &mut O, rows: &str) -> Kept {
     let mut no = 0u32;
     for line in rows.lines().skip(1) {

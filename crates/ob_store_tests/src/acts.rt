@@ -3,7 +3,7 @@
 //! index, and the texts.
 use crate::books::OUTAGE_BOOK;
 use crate::scripts::{CORRECTED, JOINS_IN_OUTAGE, PARTS_JOIN, REFUSED, TIE_STAYS, WITHDRAWN};
-use crate::steps::{Step, tell_all};
+use crate::steps::{Step, tell_each};
 use ob_net::Stop;
 use ob_post::Dim;
 
@@ -61,71 +61,59 @@ const SHOWS: &[Step] = &[
 ];
 
 // Another `Keeper` loads the book before a script and after it; then the numbers of rows, and the
-// total. An outage that a tie shortens:
-const NOTHING: &[Step] = &[
-    Step::Reopen,
-    Step::Reopen,
-    Step::Leave("1 3 5 5 5 10 4 0 25 9 320", 9_000),
-];
-
-// A correction, sent again.
-const CORRECTION: &[Step] = &[
-    Step::Reopen,
-    Step::Tell(CORRECTED),
-    Step::Reopen,
-    Step::Leave("1 3 5 5 5 10 4 0 26 12 320", 7_800),
-];
-
-const WITHDRAWAL: &[Step] = &[
-    Step::Reopen,
-    Step::Tell(WITHDRAWN),
-    Step::Reopen,
-    Step::Leave("1 3 5 5 5 10 4 0 26 12 320", 255_600),
-];
-
-// Refusals, which leave the tables as they are.
-const REFUSALS: &[Step] = &[
-    Step::Reopen,
-    Step::Tell(REFUSED),
-    Step::Reopen,
-    Step::Leave("1 3 5 5 5 10 4 0 27 9 320", 9_000),
-];
-
-// In-service intervals (lives), and parts of the network that are added after switchings.
-const LIVES: &[Step] = &[
-    Step::Reopen,
-    Step::Tell(TIE_STAYS),
-    Step::Reopen,
-    Step::Leave("1 3 5 5 5 10 4 0 27 15 320", 9_000),
-];
-
-const JOINING: &[Step] = &[
-    Step::Reopen,
-    Step::Tell(JOINS_IN_OUTAGE),
-    Step::Reopen,
-    Step::Leave("1 3 5 6 6 10 4 0 26 12 320", 4_600),
-];
-
-const PARTS: &[Step] = &[
-    Step::Reopen,
-    Step::Tell(PARTS_JOIN),
-    Step::Reopen,
-    Step::Leave("1 3 7 6 6 11 4 0 30 18 320", 91_800),
-];
-
-const AFTER_OUTAGE: &[&[&[Step]]] = &[
-    &[OUTAGE_BOOK, NOTHING],
-    &[OUTAGE_BOOK, CORRECTION],
-    &[OUTAGE_BOOK, WITHDRAWAL],
-    &[OUTAGE_BOOK, REFUSALS],
-    &[OUTAGE_BOOK, LIVES],
-    &[OUTAGE_BOOK, JOINING],
-    &[OUTAGE_BOOK, PARTS],
-    &[OUTAGE_BOOK, REPLIES],
-    &[OUTAGE_BOOK, SHOWS],
+// total.
+const AFTER_OUTAGE: &[&[Step]] = &[
+    // An outage that a tie shortens.
+    &[
+        Step::Reopen,
+        Step::Reopen,
+        Step::Leave("1 3 5 5 5 10 4 0 25 9 320", 9_000),
+    ],
+    // A correction, sent again.
+    &[
+        Step::Reopen,
+        Step::Tell(CORRECTED),
+        Step::Reopen,
+        Step::Leave("1 3 5 5 5 10 4 0 26 12 320", 7_800),
+    ],
+    // A withdrawal.
+    &[
+        Step::Reopen,
+        Step::Tell(WITHDRAWN),
+        Step::Reopen,
+        Step::Leave("1 3 5 5 5 10 4 0 26 12 320", 255_600),
+    ],
+    // Refusals, which leave the tables as they are.
+    &[
+        Step::Reopen,
+        Step::Tell(REFUSED),
+        Step::Reopen,
+        Step::Leave("1 3 5 5 5 10 4 0 27 9 320", 9_000),
+    ],
+    // In-service intervals (lives), and parts of the network that are added after switchings.
+    &[
+        Step::Reopen,
+        Step::Tell(TIE_STAYS),
+        Step::Reopen,
+        Step::Leave("1 3 5 5 5 10 4 0 27 15 320", 9_000),
+    ],
+    &[
+        Step::Reopen,
+        Step::Tell(JOINS_IN_OUTAGE),
+        Step::Reopen,
+        Step::Leave("1 3 5 6 6 10 4 0 26 12 320", 4_600),
+    ],
+    &[
+        Step::Reopen,
+        Step::Tell(PARTS_JOIN),
+        Step::Reopen,
+        Step::Leave("1 3 7 6 6 11 4 0 30 18 320", 91_800),
+    ],
+    REPLIES,
+    SHOWS,
 ];
 
 #[test]
 fn commands_after_the_outage(rt: HostRuntime) -> Result<(), Stop> {
-    tell_all(&rt, rt.alloc(), AFTER_OUTAGE)
+    tell_each(&rt, rt.alloc(), OUTAGE_BOOK, AFTER_OUTAGE, &[])
 }

@@ -3,7 +3,7 @@
 use crate::books::OUTAGE_BOOK;
 use crate::office::{BAD_BOOK, NO_OLD_BOOK, OLD_VERSION};
 use crate::scripts::{CORRECTED, JOINS_IN_OUTAGE, OUTAGE, TWO_FEEDERS};
-use crate::steps::{NEW, Step, spoil, tell_all};
+use crate::steps::{NEW, Step, spoil, tell, tell_each};
 use ob_harness::texts::TO_VERSION_1;
 use ob_net::Stop;
 
@@ -23,19 +23,16 @@ const MIGRATED: &[Step] = &[
 ];
 
 // Notes what the outage leaves in version 2; then a book with it is created over another database.
-const OF_TODAY: &[Step] = &[
+// A migration of its tables of version 1 gives, row by row, the tables that the outage leaves in
+// version 2. They hold its book: what it shows, its replies, and a life without bounds for each
+// device.
+const AS_TODAY: &[Step] = &[
     Step::Note,
     Step::NoteRows,
     Step::Open,
     NEW,
     Step::Tell(TWO_FEEDERS),
     Step::Tell(OUTAGE),
-];
-
-// A migration of its tables of version 1 gives, row by row, the tables that the outage leaves in
-// version 2. They hold its book: what it shows, its replies, and a life without bounds for each
-// device.
-const AS_TODAY: &[Step] = &[
     Step::Change(TO_VERSION_1),
     Step::Migrate(Ok(true)),
     Step::SameRows,
@@ -56,23 +53,29 @@ N7 device I1 GRID BUS-A closed 0 1704153600 => no: 11 RefConflict 7
 N22 switch B1 open 1704070800 3 K1 => 22: cause 3 414000, feeder 1 414000, day 0 414000
 ";
 
-// After the migration: a correction.
-const CORRECTED_THEN: &[Step] = &[
-    Step::Load(Ok(())),
-    Step::Tell(AGAIN),
-    Step::Tell(CORRECTED),
-    Step::Audit("none"),
-    Step::Leave("1 3 5 5 5 10 4 0 26 12 320", 7_800),
+const AFTER_A_MIGRATION: &[&[Step]] = &[
+    // A correction.
+    &[
+        Step::Load(Ok(())),
+        Step::Tell(AGAIN),
+        Step::Tell(CORRECTED),
+        Step::Audit("none"),
+        Step::Leave("1 3 5 5 5 10 4 0 26 12 320", 7_800),
+    ],
+    // A new device.
+    &[
+        Step::Load(Ok(())),
+        Step::Tell(AGAIN),
+        Step::Tell(JOINS_IN_OUTAGE),
+        Step::Audit("none"),
+        Step::Leave("1 3 5 6 6 10 4 0 26 12 320", 4_600),
+    ],
 ];
 
-// After the migration: a new device.
-const JOINED_THEN: &[Step] = &[
-    Step::Load(Ok(())),
-    Step::Tell(AGAIN),
-    Step::Tell(JOINS_IN_OUTAGE),
-    Step::Audit("none"),
-    Step::Leave("1 3 5 6 6 10 4 0 26 12 320", 4_600),
-];
+#[test]
+fn commands_of_a_migrated_book(rt: HostRuntime) -> Result<(), Stop> {
+    tell_each(&rt, rt.alloc(), MIGRATED, AFTER_A_MIGRATION, &[])
+}
 
 // A book of version 2 stays, in the tables and in memory.
 const OF_VERSION_TWO: &[Step] = &[
@@ -151,20 +154,18 @@ const SPOILT: &[&'static str] = &[
 
 // Commands that version 1 didn't accept after a switching, or at all, and that version 2 accepts. A
 // device's body text is changed to the old form.
-const BUS_LATER: &[Step] = &[Step::Tell("N26 bus BUS-B => 26")];
-
-const SECTION_LATER: &[Step] = &[Step::Tell("N26 section S9 9 => 26")];
-
-const DEVICE_LATER: &[Step] = &[
-    Step::Tell("N26 device X1 BUS-A S3 closed 0 - => 26"),
-    Step::Change("UPDATE cmd SET body = 'device X1 BUS-A S3 closed' WHERE id = 26"),
+const LATER_PARTS: &[&[Step]] = &[
+    &[Step::Tell("N26 bus BUS-B => 26")],
+    &[Step::Tell("N26 section S9 9 => 26")],
+    &[
+        Step::Tell("N26 device X1 BUS-A S3 closed 0 - => 26"),
+        Step::Change("UPDATE cmd SET body = 'device X1 BUS-A S3 closed' WHERE id = 26"),
+    ],
+    &[Step::Tell("N26 life T1 0 - => 26")],
+    &[Step::Tell(
+        "N26 withdraw 3 1 => 26: cause 3 246600, feeder 1 246600, day 0 246600\nN27 bus BUS-B => 27",
+    )],
 ];
-
-const LIFE_LATER: &[Step] = &[Step::Tell("N26 life T1 0 - => 26")];
-
-const BUS_AFTER_A_WITHDRAWAL: &[Step] = &[Step::Tell(
-    "N26 withdraw 3 1 => 26: cause 3 246600, feeder 1 246600, day 0 246600\nN27 bus BUS-B => 27",
-)];
 
 // The tables become those of version 1, and the migration leaves them as they are.
 const OLD_LEFT: &[Step] = &[
@@ -175,26 +176,39 @@ const OLD_LEFT: &[Step] = &[
     Step::SameRows,
 ];
 
-// Version 1 over the tables of version 2, and version 2 over the ten tables of version 1. The
-// migration takes the latter for tables of version 2, and they hold no book.
-const VERSION_1: &[Step] = &[
-    Step::Change("UPDATE meta SET version = 1"),
-    Step::NoteRows,
-    Step::Migrate(NO_OLD_BOOK),
-    Step::Has(false),
-    Step::SameRows,
+#[test]
+fn parts_behind_a_switching(rt: HostRuntime) -> Result<(), Stop> {
+    tell_each(&rt, rt.alloc(), OUTAGE_BOOK, LATER_PARTS, OLD_LEFT)
+}
+
+const OF_THE_OUTAGE: &[&[Step]] = &[
+    OF_VERSION_TWO,
+    // Version 1 over the tables of version 2, and version 2 over the ten tables of version 1. The
+    // migration takes the latter for tables of version 2, and they hold no book.
+    &[
+        Step::Change("UPDATE meta SET version = 1"),
+        Step::NoteRows,
+        Step::Migrate(NO_OLD_BOOK),
+        Step::Has(false),
+        Step::SameRows,
+    ],
+    &[
+        Step::Change(TO_VERSION_1),
+        Step::Change("UPDATE meta SET version = 2"),
+        Step::NoteRows,
+        Step::Migrate(Ok(false)),
+        Step::Has(false),
+        Step::SameRows,
+        Step::Load(BAD_BOOK),
+        Step::Audit("BadBook"),
+    ],
+    AS_TODAY,
 ];
 
-const VERSION_2: &[Step] = &[
-    Step::Change(TO_VERSION_1),
-    Step::Change("UPDATE meta SET version = 2"),
-    Step::NoteRows,
-    Step::Migrate(Ok(false)),
-    Step::Has(false),
-    Step::SameRows,
-    Step::Load(BAD_BOOK),
-    Step::Audit("BadBook"),
-];
+#[test]
+fn the_outage_in_both_versions(rt: HostRuntime) -> Result<(), Stop> {
+    tell_each(&rt, rt.alloc(), OUTAGE_BOOK, OF_THE_OUTAGE, &[])
+}
 
 // A book of version 1 with only its period.
 const BEGUN: &[Step] = &[
@@ -208,24 +222,9 @@ const BEGUN: &[Step] = &[
     Step::Load(Ok(())),
 ];
 
-const MIGRATIONS: &[&[&[Step]]] = &[
-    &[OUTAGE_BOOK, OF_TODAY, AS_TODAY],
-    &[MIGRATED, CORRECTED_THEN],
-    &[MIGRATED, JOINED_THEN],
-    &[OUTAGE_BOOK, OF_VERSION_TWO],
-    &[OUTAGE_BOOK, BUS_LATER, OLD_LEFT],
-    &[OUTAGE_BOOK, SECTION_LATER, OLD_LEFT],
-    &[OUTAGE_BOOK, DEVICE_LATER, OLD_LEFT],
-    &[OUTAGE_BOOK, LIFE_LATER, OLD_LEFT],
-    &[OUTAGE_BOOK, BUS_AFTER_A_WITHDRAWAL, OLD_LEFT],
-    &[OUTAGE_BOOK, VERSION_1],
-    &[OUTAGE_BOOK, VERSION_2],
-    &[BEGUN],
-];
-
 #[test]
-fn migrations(rt: HostRuntime) -> Result<(), Stop> {
-    tell_all(&rt, rt.alloc(), MIGRATIONS)
+fn a_book_without_commands(rt: HostRuntime) -> Result<(), Stop> {
+    tell(&rt, rt.alloc(), &[BEGUN])
 }
 
 #[test]

@@ -87,6 +87,20 @@ pub fn tell_all(rt: &impl Abort, alloc: Global, lists: &[&[&[Step]]]) -> Result<
     Ok(())
 }
 
+/// Checks several lists of steps, each on a book of its own, and the steps that follow each.
+pub fn tell_each(
+    rt: &impl Abort,
+    alloc: Global,
+    book: &[Step],
+    cases: &[&[Step]],
+    then: &[Step],
+) -> Result<(), Stop> {
+    for case in cases {
+        tell(rt, alloc, &[book, *case, then])?;
+    }
+    Ok(())
+}
+
 /// Checks each change of the tables of a book and, after ` => `, the answer to an audit then; and
 /// the steps that follow each.
 pub fn spoil(
