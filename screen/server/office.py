@@ -251,7 +251,7 @@ class Office:
 
     async def words_of(self, route: str) -> str | None:
         """What the desk says, word for word, or its copy where there is no desk; None where there is no such thing."""
-        answer = await (self.desk.ask("GET", route) if self.has_desk else self.copy.ask(route))
+        answer = await (self.desk.look(route) if self.has_desk else self.copy.ask(route))
         return answer.body.decode() if answer.status == 200 else None
 
     async def past(self) -> Past:
