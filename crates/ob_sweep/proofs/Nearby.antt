@@ -28,7 +28,7 @@ use Rattle.ob_sweep.specs.declared.change.SheetChange.{SheetChange}
 use Rattle.ob_sweep.specs.declared.change.SheetChange.TheVariants.{Entered, Corrected, Withdrawn}
 use Rattle.ob_sweep.specs.declared.window.Window.{Window}
 use Rattle.ob_sweep.proofs.Framed.{AreFramed, are_parts, first_to_last, in_order_left, inside_after, kept_after, named_mid, new_device, of_the_device, respliced_runs, rise_after, spliced_runs}
-use Rattle.ob_sweep.proofs.Near.{Keep, inside_without, keep_all, keep_first, keep_runs, outside_without}
+use Rattle.ob_sweep.proofs.Sides.{Keep, inside_without, keep_all, keep_first, keep_runs, outside_without}
 use Rattle.ob_sweep.proofs.Parted.{OfNew, OfOld, each_as, each_changed, each_filter, each_join, each_left, each_right}
 use Rattle.ob_sweep.proofs.Planned.{AreReady, between, few, framed_so, ready}
 use Rattle.ob_sweep.proofs.Preceding.{old_named}
