@@ -1,5 +1,5 @@
 -- Finding a set of nodes that is apart: trees joined by the closed devices without an end at GRID, and the marks of two of them.
-use Rattle.std.proofs.Common.{◌≡◌, ◌≢◌, ◌<◌, ◌+◌, ◌↔◌, ◌||◌, ℕ, Bool, true, false, List, length, get_or, set, refl, sym, ap, subst, ◌∙◌, inl, inr, arith, length-set, get_or-set_other}
+use Rattle.std.proofs.Common.{◌≡◌, ◌≢◌, ◌<◌, ◌+◌, ◌||◌, ℕ, Bool, true, false, List, length, get_or, set, refl, sym, ap, subst, ◌∙◌, inl, inr, arith, length-set, get_or-set_other}
 use Rattle.std.proofs.lemmas.Bool.{cases_Bool, cases_eq}
 use Rattle.std.proofs.lemmas.Grind.{get_or-set_at}
 use Rattle.std.proofs.lemmas.List.{get_or_default}
@@ -7,7 +7,7 @@ use Rattle.ob_base.specs.declared.Pos.{Pos}
 use Rattle.ob_base.specs.declared.Pos.TheVariants.{Closed}
 use Rattle.ob_net.specs.declared.TheConstants.{GRID}
 use Rattle.ob_net.specs.declared.net.Device.{Device}
-use Rattle.ob_net.specs.Apart.{HasEnds, KeepTo, KeepsTo, device_at, is_at, no_device}
+use Rattle.ob_net.specs.Apart.{HasEnds, KeepTo, KeepsTo, device_at, no_device}
 use Rattle.ob_net.specs.Forest.{IsForest, IsTreewise, parent}
 use Rattle.ob_net.specs.Joints.{IsClosedAt}
 use Rattle.ob_net.specs.Reach.{is_reached}

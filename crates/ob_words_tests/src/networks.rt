@@ -4,7 +4,7 @@ ghost use Rattle.ob_net.specs.Supplies.{IsOf};
 
 use ob_command::{Command, NewDevice, read_body};
 use ob_net::Pos::{Closed, Opened};
-use ob_net::{Name, Net, Node, Pos, Refusal, Stop, Supply, grid, walk_law};
+use ob_net::{Name, Net, Node, Pos, Refusal, Stop, Supply, apart_law, grid, walk_law};
 use std::alloc::Global;
 use std::process::Abort;
 use std::test::Fail;
@@ -262,6 +262,49 @@ fn one_switching_after_another(rt: HostRuntime) -> Result<(), Fail> {
         switches(&rt, &mut net, &mut supply, switching);
     }
     assert!(rt; net.nodes() == 6 && net.devices() == 6 && net.searches() == 10);
+    Ok(())
+}
+
+// Positions of the devices CB-A, CB-B, D1, D2, D3 and TIE, the number of a device, which of the
+// nodes GRID, BUS-A, BUS-B, S1, S2 and S3 are near it, and which of the devices are at those nodes.
+type Near = (&'static [u8; 6], u16, &'static [u8; 6], &'static [u8; 6]);
+
+// A feeder in its normal positions, by its breaker and by one of its switches; both feeders by the
+// tie, open and closed; the sections behind an open breaker; and every device open.
+const NEAR: [Near; 6] = [
+    (b"ccccco", 2, b"-+-++-", b"+-++-+"),
+    (b"ccccco", 0, b"-+-++-", b"+-++-+"),
+    (b"ccccco", 5, b"-+++++", b"++++++"),
+    (b"cccccc", 4, b"-+++++", b"++++++"),
+    (b"ccocco", 3, b"---++-", b"--++-+"),
+    (b"oooooo", 1, b"--+---", b"-+--+-"),
+];
+
+fn finds_near(rt: &impl Abort, alloc: Global, net: &Net, line: &Near) -> Result<(), Fail> {
+    let (text, device, wanted, at) = *line;
+    let mut positions = Vec::new(alloc);
+    for byte in text {
+        positions.push(if *byte == b'c' { Closed } else { Opened })?;
+    }
+    assert!(rt; net.devices() == 6 && device < 6 && positions.len() == 6);
+    let near = net.nodes_near(device, &positions)?;
+    assert!(rt; near.len() == 6);
+    for (found, wanted) in near.iter().zip(wanted) {
+        assert!(rt; *found == (*wanted == b'+'));
+    }
+    for number in 0..6u16 {
+        assert!(rt; net.is_at(number, &near) == (at[usize::from(number)] == b'+'));
+    }
+    Ok(())
+}
+
+#[test]
+fn nodes_near_a_device(rt: HostRuntime) -> Result<(), Fail> {
+    apart_law();
+    let net = meshed(&rt, rt.alloc())?;
+    for line in &NEAR {
+        finds_near(&rt, rt.alloc(), &net, line)?;
+    }
     Ok(())
 }
 

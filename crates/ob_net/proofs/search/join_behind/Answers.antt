@@ -1,6 +1,4 @@
-use Rattle.std.proofs.Common.{◌≡◌, ◌<◌, length, arith, ◌∙◌, sym, ap, subst}
-use Rattle.std.proofs.lemmas.List.{get_or_default}
-use Rattle.ob_base.specs.declared.Pos.TheVariants.{Opened}
+use Rattle.std.proofs.Common.{◌≡◌, ◌<◌, length, arith, subst}
 use Rattle.ob_net.specs.Apart.{KeepTo}
 use Rattle.ob_net.proofs.Marked.{behind_more}
 use Rattle.ob_net.proofs.search.join_behind.Goals as goal
