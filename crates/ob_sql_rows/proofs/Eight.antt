@@ -1,4 +1,4 @@
--- Lists of eight moved amounts.
+-- Lists of eight, and of eight moved amounts.
 use Rattle.std.proofs.Common.{◌≡◌, ℕ, pos, List, [], ◌∷◌, length, get_or, refl, arith}
 use Rattle.sqlite.specs.Order.{Row}
 use Rattle.sqlite.specs.declared.types.Value.TheVariants.{Int}
@@ -7,7 +7,7 @@ use Rattle.ob_sql_rows.specs.Block.{block_params}
 use Rattle.ob_sql_rows.specs.declared.block.MovedAmount.{MovedAmount}
 
 -- what holds of any eight holds of such a list
-pub of_eight : (P : List MovedAmount → Type 0) → ((a b c d e f g h : MovedAmount) → P (a ∷ b ∷ c ∷ d ∷ e ∷ f ∷ g ∷ h ∷ [])) → (amounts : List MovedAmount) → length amounts ≡ 8 → P amounts
+pub of_eight : {X : Type 0} (P : List X → Type 0) → ((a b c d e f g h : X) → P (a ∷ b ∷ c ∷ d ∷ e ∷ f ∷ g ∷ h ∷ [])) → (xs : List X) → length xs ≡ 8 → P xs
 of_eight P of [] long = absurd (omega (arith, long))
 of_eight P of (a ∷ []) long = absurd (omega (arith, long))
 of_eight P of (a ∷ b ∷ []) long = absurd (omega (arith, long))
