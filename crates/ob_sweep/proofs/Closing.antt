@@ -1,10 +1,10 @@
 -- Gathering the devices that are closed after some entries or that steps close, and the steps of the devices at a set of nodes.
-use Rattle.std.proofs.Common.{◌≡◌, ◌+◌, ◌<◌, ◌++◌, ℕ, Bool, true, false, cond, List, [], ◌∷◌, length, get_or, take, set, refl, sym, ap, subst, ◌∙◌, arith, length-set}
+use Rattle.std.proofs.Common.{◌≡◌, ◌+◌, ◌<◌, ◌++◌, ℕ, Bool, true, false, cond, List, [], ◌∷◌, length, get_or, take, set, sym, ap, subst, ◌∙◌, length-set}
 use Rattle.std.specs.List.{All, filter}
 use Rattle.std.proofs.lemmas.List.{append-nil, take_more}
 use Rattle.std.proofs.lemmas.List.Elements.{All-push, filter_more}
 use Rattle.ob_base.specs.declared.Pos.{Pos}
-use Rattle.ob_base.specs.declared.Pos.TheVariants.{Opened, Closed}
+use Rattle.ob_base.specs.declared.Pos.TheVariants.{Closed}
 use Rattle.ob_net.specs.Apart.{HasEnds, IsApart, device_at}
 use Rattle.ob_net.specs.Joints.{IsClosedAt}
 use Rattle.ob_net.specs.Network.{Network}

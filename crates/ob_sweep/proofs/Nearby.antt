@@ -1,12 +1,11 @@
 -- What a change makes of the runs of the nodes near its device and of all others, where a window's steps are those near it alone.
-use Rattle.std.proofs.Common.{◌≡◌, ◌≢◌, ◌-◌, ◌+◌, ◌<◌, ◌≤◌, ℕ, suc, zero, Bool, true, false, not, cond, List, [], ◌∷◌, ◌++◌, Some, length, take, drop, refl, sym, ◌∙◌, ap, arith, subst, inl, inr, IsTrue}
-use Rattle.std.specs.List.{All, AllPairs, AllByRecursion, filter}
+use Rattle.std.proofs.Common.{◌≡◌, ◌-◌, ◌+◌, ◌<◌, ◌≤◌, ℕ, suc, Bool, true, false, not, cond, List, [], ◌∷◌, ◌++◌, Some, length, take, drop, refl, sym, ◌∙◌, ap, arith, subst, inl, inr, IsTrue}
+use Rattle.std.specs.List.{AllByRecursion, filter}
 use Rattle.std.proofs.lemmas.Bool.{cases_Bool, cond-true, cond-false}
 use Rattle.std.proofs.lemmas.List.{length-append}
 use Rattle.std.proofs.lemmas.List.Elements.{All-drop, All-filter, All-from_recursion, All-take, recursion_from_All}
 use Rattle.std.proofs.Math.Seq.{get_or-append_seam}
-use Rattle.ob_base.specs.declared.Pos.TheVariants.{Closed}
-use Rattle.ob_net.specs.Apart.{HasEnds, KeepsTo, device_at, is_at}
+use Rattle.ob_net.specs.Apart.{KeepsTo, device_at, is_at}
 use Rattle.ob_net.specs.Network.{Network}
 use Rattle.ob_net.specs.Reach.{is_reached}
 use Rattle.ob_net.proofs.Apart.{ends_keep}
@@ -14,7 +13,6 @@ use Rattle.ob_sheet.proofs.Ordered.{rising_pairs}
 use Rattle.ob_sheet.proofs.Sorting.{IsInOrder}
 use Rattle.ob_sheet.specs.declared.Entry.{Entry}
 use Rattle.ob_sheet.specs.Order.{entry_of, in_order, is_before}
-use Rattle.ob_sheet.specs.Positions.{entered}
 use Rattle.ob_sheet.specs.Sheet.{AreNumbered, NameDevices}
 use Rattle.ob_sweep.specs.Near.{AreNear, ClosesWithin, acts_at, spliced_near}
 use Rattle.ob_sweep.specs.Runs.{history, runs_between}
@@ -27,8 +25,8 @@ use Rattle.ob_sweep.specs.declared.Run.{Run}
 use Rattle.ob_sweep.specs.declared.change.SheetChange.{SheetChange}
 use Rattle.ob_sweep.specs.declared.change.SheetChange.TheVariants.{Entered, Corrected, Withdrawn}
 use Rattle.ob_sweep.specs.declared.window.Window.{Window}
-use Rattle.ob_sweep.proofs.Framed.{AreFramed, are_parts, first_to_last, in_order_left, inside_after, kept_after, named_mid, new_device, of_the_device, respliced_runs, rise_after, spliced_runs}
-use Rattle.ob_sweep.proofs.Sides.{Keep, inside_without, keep_all, keep_first, keep_runs, outside_without}
+use Rattle.ob_sweep.proofs.Framed.{AreFramed, are_parts, first_to_last, in_order_left, named_mid, new_device, of_the_device, respliced_runs, rise_after, spliced_runs}
+use Rattle.ob_sweep.proofs.Sides.{inside_without, keep_all, keep_first, keep_runs, outside_without}
 use Rattle.ob_sweep.proofs.Parted.{OfNew, OfOld, each_as, each_changed, each_filter, each_join, each_left, each_right}
 use Rattle.ob_sweep.proofs.Planned.{AreReady, between, few, framed_so, ready}
 use Rattle.ob_sweep.proofs.Preceding.{old_named}
