@@ -1,16 +1,15 @@
 -- Gathering the devices that are closed after some entries or that steps close, and the steps of the devices at a set of nodes.
-use Rattle.std.proofs.Common.{◌≡◌, ◌+◌, ◌<◌, ◌++◌, ℕ, Bool, true, false, cond, List, [], ◌∷◌, length, get_or, take, set, refl, sym, ap, subst, ◌∙◌, arith, length-set}
+use Rattle.std.proofs.Common.{◌≡◌, ◌+◌, ◌<◌, ◌++◌, ℕ, Bool, true, false, cond, List, [], ◌∷◌, length, get_or, take, set, sym, ap, subst, ◌∙◌, length-set}
 use Rattle.std.specs.List.{All, filter}
 use Rattle.std.proofs.lemmas.List.{append-nil, take_more}
 use Rattle.std.proofs.lemmas.List.Elements.{All-push, filter_more}
 use Rattle.ob_base.specs.declared.Pos.{Pos}
-use Rattle.ob_base.specs.declared.Pos.TheVariants.{Opened, Closed}
+use Rattle.ob_base.specs.declared.Pos.TheVariants.{Closed}
 use Rattle.ob_net.specs.Apart.{HasEnds, IsApart, device_at}
 use Rattle.ob_net.specs.Joints.{IsClosedAt}
 use Rattle.ob_net.specs.Network.{Network}
 use Rattle.ob_net.proofs.Switched.{closed_here, closed_more}
 use Rattle.ob_sheet.specs.declared.Entry.{Entry}
-use Rattle.ob_sheet.specs.Positions.{entered}
 use Rattle.ob_sheet.specs.Sheet.{NameDevices}
 use Rattle.ob_sweep.specs.Near.{AreNear}
 
@@ -50,16 +49,12 @@ closing_open first steps i x now l is opens h =
     }
 
 -- a set that is apart under all these positions is one of the nodes near the device
-pub near_of : (net : Network) (base steps : List Entry) (device : ℕ) (has : ℕ → Bool) (first now : List Pos) → first ≡ entered net base
+pub near_of : (net : Network) (steps : List Entry) (device : ℕ) (has : ℕ → Bool) (first now : List Pos)
     → ((k : ℕ) → IsClosedAt first k → IsClosedAt now k) → All (LeavesClosed now) steps → NameDevices (length net.devices) steps
-    → IsApart net now has → HasEnds has (device_at net.devices device) → AreNear net base steps device has
-near_of net base steps device has first now is kept closed names apart ends =
+    → IsApart net now has → HasEnds has (device_at net.devices device) → AreNear net first steps device has
+near_of net steps device has first now kept closed names apart ends =
     record {
-      first =
-          record {
-            grid = apart.grid;
-            keeps = λ k l c. apart.keeps k l (kept k (subst (λ (ps : List Pos). IsClosedAt ps k) (sym is) c));
-          };
+      first = record { grid = apart.grid; keeps = λ k l c. apart.keeps k l (kept k c) };
       steps = λ k d l c. apart.keeps (get_or steps k d).device (names k d l) (closed k d l c);
       ends = ends;
     }

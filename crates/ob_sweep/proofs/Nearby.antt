@@ -1,12 +1,12 @@
 -- What a change makes of the runs of the nodes near its device and of all others, where a window's steps are those near it alone.
-use Rattle.std.proofs.Common.{◌≡◌, ◌≢◌, ◌-◌, ◌+◌, ◌<◌, ◌≤◌, ℕ, suc, zero, Bool, true, false, not, cond, List, [], ◌∷◌, ◌++◌, Some, length, take, drop, refl, sym, ◌∙◌, ap, arith, subst, inl, inr, IsTrue}
+use Rattle.std.proofs.Common.{◌≡◌, ◌-◌, ◌+◌, ◌<◌, ◌≤◌, ℕ, suc, Bool, true, false, not, cond, List, [], ◌∷◌, ◌++◌, Some, length, take, drop, refl, sym, ◌∙◌, ap, arith, subst, inl, inr, IsTrue}
 use Rattle.std.specs.List.{All, AllPairs, AllByRecursion, filter}
 use Rattle.std.proofs.lemmas.Bool.{cases_Bool, cond-true, cond-false}
 use Rattle.std.proofs.lemmas.List.{length-append}
 use Rattle.std.proofs.lemmas.List.Elements.{All-drop, All-filter, All-from_recursion, All-take, recursion_from_All}
 use Rattle.std.proofs.Math.Seq.{get_or-append_seam}
-use Rattle.ob_base.specs.declared.Pos.TheVariants.{Closed}
-use Rattle.ob_net.specs.Apart.{HasEnds, KeepsTo, device_at, is_at}
+use Rattle.ob_base.specs.declared.Pos.{Pos}
+use Rattle.ob_net.specs.Apart.{KeepsTo, device_at, is_at}
 use Rattle.ob_net.specs.Network.{Network}
 use Rattle.ob_net.specs.Reach.{is_reached}
 use Rattle.ob_net.proofs.Apart.{ends_keep}
@@ -20,15 +20,15 @@ use Rattle.ob_sweep.specs.Near.{AreNear, ClosesWithin, acts_at, spliced_near}
 use Rattle.ob_sweep.specs.Runs.{history, runs_between}
 use Rattle.ob_sweep.specs.SheetChanges.{CanChange, changed_order, others, with_change}
 use Rattle.ob_sweep.specs.Splice.{splice}
-use Rattle.ob_sweep.specs.Steps.{all_runs}
+use Rattle.ob_sweep.specs.Steps.{ArePositionsBefore, all_runs}
 use Rattle.ob_sweep.specs.Timeline.{AreOfNode, AreRuns, IsSection, LieBetween, runs_at}
 use Rattle.ob_sweep.specs.Windows.{IsWindow, count_within, device_of, first_changed, last_changed}
 use Rattle.ob_sweep.specs.declared.Run.{Run}
 use Rattle.ob_sweep.specs.declared.change.SheetChange.{SheetChange}
 use Rattle.ob_sweep.specs.declared.change.SheetChange.TheVariants.{Entered, Corrected, Withdrawn}
 use Rattle.ob_sweep.specs.declared.window.Window.{Window}
-use Rattle.ob_sweep.proofs.Framed.{AreFramed, are_parts, first_to_last, in_order_left, inside_after, kept_after, named_mid, new_device, of_the_device, respliced_runs, rise_after, spliced_runs}
-use Rattle.ob_sweep.proofs.Sides.{Keep, inside_without, keep_all, keep_first, keep_runs, outside_without}
+use Rattle.ob_sweep.proofs.Framed.{AreFramed, are_parts, first_to_last, in_order_left, named_mid, new_device, of_the_device, respliced_runs, rise_after, spliced_runs}
+use Rattle.ob_sweep.proofs.Sides.{inside_without, keep_all, keep_first, keep_runs, outside_without}
 use Rattle.ob_sweep.proofs.Parted.{OfNew, OfOld, each_as, each_changed, each_filter, each_join, each_left, each_right}
 use Rattle.ob_sweep.proofs.Planned.{AreReady, between, few, framed_so, ready}
 use Rattle.ob_sweep.proofs.Preceding.{old_named}
@@ -95,7 +95,7 @@ module _ (entries : List Entry) (change : SheetChange) (lo end : ℕ) (numbered 
   abbrev z : ℕ
   z = last_changed change entries (end - 1)
 
-  module _ (front mid rest : List Entry) (framed : AreFramed entries a z front mid rest) (net : Network) (has : ℕ → Bool) (near : AreNear net front mid (device_of change) has) where
+  module _ (front mid rest : List Entry) (framed : AreFramed entries a z front mid rest) (net : Network) (has : ℕ → Bool) (near : AreNear net (entered net front) mid (device_of change) has) where
     abbrev steps : List Entry
     steps = changed_order change mid
 
@@ -200,13 +200,24 @@ module _ (entries : List Entry) (change : SheetChange) (lo end : ℕ) (numbered 
         named = All-filter q (λ e. e.device < devices) all_steps r.named;
       }
 
+  pub some_before : (q : Entry → Bool) (devices : ℕ) → NameDevices devices (with_change change entries) → (net : Network) (swept : List Entry) (now : List Pos)
+      → swept ≡ filter q all_steps → now ≡ entered net first_ones → ArePositionsBefore net first_ones w.first swept now
+  some_before q devices names net swept now is given =
+      let r = some_ready q devices names in
+      record {
+        kept = subst (λ (es : List Entry). All (λ e. IsTrue e.kept) (first_ones ++ es)) (sym is) r.kept;
+        ordered = subst (λ (es : List Entry). AllPairs (λ a b. IsTrue (is_before a b)) (first_ones ++ es)) (sym is) r.ordered;
+        earlier = r.earlier;
+        given = given;
+      }
+
   pub steps_named : (devices : ℕ) → NameDevices devices (with_change change entries) → NameDevices devices all_steps
   steps_named devices names = (ready entries change lo end numbered ok some lie lie_changed w is devices names).named
 
   pub some_few : (q : Entry → Bool) → length (filter q all_steps) ≤ count_within change entries (first_changed change) (last_changed change entries (end - 1))
   some_few q = omega (arith, fewer q all_steps, few entries change lo end numbered ok some lie lie_changed w is)
 
-  module _ (net : Network) (near : List Bool) (old window : List (List Run)) (apart : AreNear net first_ones old_steps (device_of change) (is_reached near)) (were : AreRuns net entries lo end old)
+  module _ (net : Network) (near : List Bool) (old window : List (List Run)) (apart : AreNear net (entered net first_ones) old_steps (device_of change) (is_reached near)) (were : AreRuns net entries lo end old)
       (found : window ≡ all_runs net (first_ones ++ filter (acts_at net (is_reached near)) all_steps) w.first w.end) where
     pub near_news : (v : ℕ) → IsSection net v → spliced_near near w.first w.end old window v ≡ runs_between v (history net (with_change change entries) v) lo end
     near_news v section =

@@ -1,22 +1,19 @@
 -- The history of a node under all steps, and under those alone that have a part in it: of a node of the set, those of devices with an
 -- end in it; of another node, those of all other devices.
-use Rattle.std.proofs.Common.{◌≡◌, ◌&&◌, ℕ, suc, ◌+◌, ◌<◌, ◌≤◌, inl, inr, Bool, true, false, not, cond, List, [], ◌∷◌, ◌++◌, Some, refl, sym, ◌∙◌, ap, arith, subst, set, length, append_assoc, true≢false}
+use Rattle.std.proofs.Common.{◌≡◌, ◌&&◌, ℕ, ◌≤◌, inl, inr, Bool, true, false, not, cond, List, [], ◌∷◌, ◌++◌, Some, refl, sym, ◌∙◌, ap, subst, set, append_assoc, true≢false}
 use Rattle.std.specs.List.{AllByRecursion, filter}
 use Rattle.std.proofs.lemmas.Bool.{cases_Bool, cases_lt, cases_eq, cond-true, cond-false}
 use Rattle.std.proofs.lemmas.List.{append-nil}
 use Rattle.ob_base.specs.declared.Pos.{Pos}
-use Rattle.ob_base.specs.declared.Pos.TheVariants.{Closed}
-use Rattle.ob_net.specs.Apart.{AreAlikeFor, IsApart, KeepsTo, device_at, is_at}
-use Rattle.ob_net.specs.Network.{Network, as_of}
-use Rattle.ob_net.specs.Walk.{is_supplied}
+use Rattle.ob_net.specs.Apart.{AreAlikeFor, IsApart, device_at, is_at}
+use Rattle.ob_net.specs.Network.{Network}
 use Rattle.ob_net.proofs.Apart.{alike_both, alike_one, apart_as_of, apart_set}
 use Rattle.ob_sheet.specs.declared.Entry.{Entry}
-use Rattle.ob_sheet.specs.Order.{is_before, upto}
-use Rattle.ob_sheet.specs.Positions.{entered, positions}
+use Rattle.ob_sheet.specs.Order.{is_before}
+use Rattle.ob_sheet.specs.Positions.{entered}
 use Rattle.ob_sheet.specs.Supply.{is_supplied_under}
 use Rattle.ob_sweep.specs.Near.{ClosesWithin, acts_at}
 use Rattle.ob_sweep.specs.Runs.{History, history, runs_between}
-use Rattle.ob_sweep.specs.declared.Run.{Run}
 use Rattle.ob_sweep.proofs.Growth.{AllBefore, adds, upto_after_new, upto_after_old, upto_before}
 use Rattle.ob_sweep.proofs.Law.{Alike, Follow}
 use Rattle.ob_sweep.proofs.Sweeps.{entered_more, length-entered}

@@ -1,12 +1,12 @@
 -- The nodes whose supply a change of the sheet can alter, and the entries that have a part in it.
 use Rattle.std.specs.Prelude.{◌≡◌, ℕ, Bool, List, if◌then◌else◌}
 use Rattle.std.specs.List.{All}
+use Rattle.ob_base.specs.declared.Pos.{Pos}
 use Rattle.ob_base.specs.declared.Pos.TheVariants.{Closed}
 use Rattle.ob_net.specs.Apart.{HasEnds, IsApart, KeepsTo, device_at, is_at}
 use Rattle.ob_net.specs.Network.{Network}
 use Rattle.ob_net.specs.Reach.{is_reached}
 use Rattle.ob_sheet.specs.declared.Entry.{Entry}
-use Rattle.ob_sheet.specs.Positions.{entered}
 use Rattle.ob_sweep.specs.Splice.{splice}
 use Rattle.ob_sweep.specs.Timeline.{runs_at}
 use Rattle.ob_sweep.specs.declared.Run.{Run}
@@ -19,10 +19,10 @@ acts_at net has e = is_at has (device_at net.devices e.device)
 abbrev pub ClosesWithin : Network → (ℕ → Bool) → Entry → Type 0
 ClosesWithin net has e = e.pos ≡ Closed → KeepsTo has (device_at net.devices e.device)
 
--- the set has the device's ends and not GRID, and no device that is closed after the first entries, or that one of the
--- steps closes, joins a node of it to one outside but GRID
-pub record AreNear (net : Network) (base acting : List Entry) (device : ℕ) (has : ℕ → Bool) : Type 0 where
-  pub first : IsApart net (entered net base) has
+-- the set has the device's ends and not GRID, and no device that is closed at first, or that one of the steps closes,
+-- joins a node of it to one outside but GRID
+pub record AreNear (net : Network) (positions : List Pos) (acting : List Entry) (device : ℕ) (has : ℕ → Bool) : Type 0 where
+  pub first : IsApart net positions has
   pub steps : All (ClosesWithin net has) acting
   pub ends : HasEnds has (device_at net.devices device)
 

@@ -1,18 +1,17 @@
 //! The nodes whose supply a change of a switching log can alter, and the entries that have a part in
 //! it. Outside of a change's nodes nothing changes, so that no other switching need be looked at.
-ghost use Rattle.std.specs.Prelude.{◌≡◌, ◌<◌, ◌≤◌, ℕ, IfOk, IfErr, length, take};
+ghost use Rattle.std.specs.Prelude.{◌≡◌, ◌<◌, ℕ, IfOk, IfErr, length};
 ghost use Rattle.std.specs.List.{All, filter};
 ghost use Rattle.ob_base.specs.Stop.{out_of_memory};
 ghost use Rattle.ob_base.specs.declared.Pos.TheVariants.{Closed};
 ghost use Rattle.ob_net.specs.Joints.{IsClosedAt};
 ghost use Rattle.ob_net.specs.Reach.{is_reached};
-ghost use Rattle.ob_sheet.specs.Order.{in_order};
 ghost use Rattle.ob_sheet.specs.Sheet.{NameDevices};
 ghost use Rattle.ob_sweep.specs.Near.{AreNear, acts_at};
 
 use ob_base::{Pos, Stop};
 use ob_net::Net;
-use ob_sheet::{Entry, Sheet};
+use ob_sheet::Entry;
 use std::alloc::{AllocError, Global};
 
 /// Closes each device that one of the steps closes.
@@ -28,25 +27,25 @@ fn close_each(positions: &mut [Pos], steps: &[Entry])
     }
 }
 
-/// Finds the nodes whose supply switching a device can alter while the steps act, which come after
-/// the entries before `place` in the log's order.
+/// Finds the nodes whose supply switching a device can alter while the steps act. Earlier entries
+/// gave the devices the positions `entered`.
 pub fn nodes_near(
+    alloc: Global,
     net: &Net,
-    sheet: &Sheet,
-    place: usize,
+    entered: &[Pos],
     steps: &[Entry],
     device: u16,
 ) -> Result<Vec<bool>, Stop>
-    requires place { place ≤ length (in_order sheet.now.entries) }
-    requires sheet_devices { NameDevices (length net.now.network.devices) sheet.now.entries }
+    requires entered { length entered.now ≡ length net.now.network.devices }
     requires devices { NameDevices (length net.now.network.devices) steps.now }
     requires device { device < length net.now.network.devices }
     ensures count { IfOk result (λ near. length near.items ≡ length net.now.network.nodes) }
-    ensures near { IfOk result (λ near. AreNear net.now.network
-        (take place (in_order sheet.now.entries)) steps.now device (is_reached near.items)) }
+    ensures near { IfOk result (λ near. AreNear net.now.network entered.now steps.now device
+        (is_reached near.items)) }
     ensures err { IfErr result (λ stop. stop ≡ out_of_memory) }
 {
-    let mut closed = sheet.entered_before(place, net)?;
+    let mut closed = Vec::with_capacity(alloc, entered.len())?;
+    closed.extend_from_slice(entered)?;
     close_each(&mut closed, steps);
     let near = net.nodes_near(device, &closed)?;
     Ok(near)

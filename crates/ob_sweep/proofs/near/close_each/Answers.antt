@@ -1,8 +1,8 @@
-use Rattle.std.proofs.Common.{◌≡◌, ◌<◌, ◌+◌, List, length, subst, sym, ap, ◌∙◌, arith, set, get_or, take}
+use Rattle.std.proofs.Common.{◌<◌, ◌+◌, List, length, subst, sym, ◌∙◌, arith, set}
 use Rattle.std.specs.List.{All}
-use Rattle.std.proofs.lemmas.List.{get_or_default, take_all}
+use Rattle.std.proofs.lemmas.List.{take_all}
 use Rattle.ob_base.specs.declared.Pos.TheVariants.{Closed}
-use Rattle.ob_net.proofs.Forests.{was_closed, was_open}
+use Rattle.ob_net.proofs.Forests.{was_open}
 use Rattle.ob_sheet.specs.declared.Entry.{Entry}
 use Rattle.ob_sweep.proofs.Closing.{Closing, LeavesClosed, closing_more, closing_open}
 use Rattle.ob_sweep.proofs.near.close_each.Goals.{then-eq, else-eq}

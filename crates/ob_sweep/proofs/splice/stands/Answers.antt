@@ -1,4 +1,4 @@
-use Rattle.std.proofs.Common.{◌≡◌, Bool, sym, ◌∙◌, refl}
+use Rattle.std.proofs.Common.{Bool, sym, ◌∙◌, refl}
 use Rattle.std.specs.Cmp.Lexicographic.{pointwise}
 use Rattle.std.proofs.lemmas.Slice.Eq.{slice_eq-Decides}
 use Rattle.ob_sweep.specs.contracts.RunPartialEq.TheImpl as same
