@@ -3,34 +3,30 @@ use Rattle.std.proofs.Common.{◌≡◌, ◌≢◌, ◌∙◌, ap, refl, sym, su
 use Rattle.std.specs.List.{All, AllByRecursion, AllPairs, list_any, range_with_len}
 use Rattle.std.specs.Prelude.{if◌then◌else◌}
 use Rattle.std.proofs.lemmas.Bool.{or_from, and_left, and_right, cases_eq}
-use Rattle.std.proofs.lemmas.List.{append-nil, append_assoc, get_or_append_left, get_or-append-add, get_or-take, length-append, length-map, length-take-le}
+use Rattle.std.proofs.lemmas.List.{append_assoc, get_or_append_left, get_or-append-add, get_or-take, length-append, length-map, length-take-le}
 use Rattle.std.proofs.lemmas.List.Elements.{All-append, All-from_get_or, All-map, All-tail}
 use Rattle.std.proofs.lemmas.List.Folds.{list_any-append, list_any_none}
 use Rattle.std.proofs.lemmas.List.FromFn.{get_or-map-range_with_len, get_or-range_with_len, length-map-range_with_len, length-range_with_len}
 use Rattle.std.proofs.lemmas.List.Kept.{AllPairs-cons}
 use Rattle.ob_base.specs.Life.{whole_life}
 use Rattle.ob_post.specs.Keys.{dim_number}
-use Rattle.ob_post.specs.Moved.{IsBefore}
-use Rattle.ob_post.specs.Postings.{PostedAmounts}
 use Rattle.ob_post.specs.declared.Dim.{Dim}
 use Rattle.ob_post.specs.declared.Dim.TheVariants as dim
-use Rattle.ob_post.specs.declared.Moved.{Moved}
 use Rattle.ob_post.proofs.Keying.{same_dim}
 use Rattle.ob_state.specs.declared.resolved.Resolved.{Resolved}
 use Rattle.ob_state.specs.declared.resolved.Resolved.TheVariants as resolved
-use Rattle.ob_sql_rows.specs.Rows.{Columns, HasCommand, HasPosting, Tables, is_key, is_posting, is_reference, change_where, rebody, command_row, life_row}
-use Rattle.ob_sql_rows.specs.Rules.{HasKey, HasRoom, HasShort, IsShort, IsShortValue, LetsBody, LetsCause, LetsCommand, LetsLife, LetsMeta, LetsMoved, LetsNode, LetsPosting, is_moved}
+use Rattle.ob_sql_rows.specs.Rows.{Columns, HasCommand, Tables, is_key, is_posting, is_reference, change_where, rebody, command_row, life_row}
+use Rattle.ob_sql_rows.specs.Rules.{HasKey, HasShort, IsShort, IsShortValue, LetsBody, LetsCause, LetsCommand, LetsLife, LetsMeta, LetsNode, LetsPosting}
 use Rattle.ob_sql_rows.specs.declared.table.Table.TheVariants.{Meta, Device, Life, Command, Moved as Moves, Posting}
 use Rattle.ob_sql_write.specs.Acts.{with_command}
 use Rattle.ob_sql_write.specs.Amounts.{all_keys, amount_row}
 use Rattle.ob_sql_write.specs.Changing.{rows_by}
-use Rattle.ob_sql_write.specs.Moves.{HasRows, LetsMoves, with_move, with_moves}
+use Rattle.ob_sql_write.specs.Moves.{LetsMoves}
 use Rattle.ob_sql_write.specs.NewBook.{LetsHeading, LetsZeros, keys_of, no_amount, with_zeros}
-use Rattle.ob_sql_write.specs.Stored.{row_of, rows_of}
 use Rattle.ob_sql_write.specs.Upgrade.{HasBodies, LetsBodies, LetsLivesOf, with_bodies, with_body, with_lives}
 use Rattle.ob_sql_write.specs.declared.act.Act.{Act}
 use Rattle.ob_sql_write.specs.declared.upgrade.NewBody.{NewBody}
-use Rattle.ob_sql_write.proofs.Tests.{keyed, last_passes, no_front, none_more, none_of_fewer, not_keyed, other_number, short_column}
+use Rattle.ob_sql_write.proofs.Tests.{keyed, last_passes, none_more, not_keyed, other_number, short_column}
 use Rattle.ob_sql_write.proofs.Zeros.{ranges_are_all}
 
 -- ---- the rows of a command
