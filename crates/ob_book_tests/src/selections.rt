@@ -101,7 +101,7 @@ fn has_lines(rt: &impl Abort, text: &str, header: &str, count: usize, wanted: &s
     }
 }
 
-// The text of indices of a book; with the check of the text in one function this takes half a minute
+// The text of indices of a book. In one function with the check of the text it takes half a minute
 // to prove.
 fn text_by(alloc: Global, book: &Book<Windowed>, by: By, longest: Second) -> Result<Vec<u8>, Stop> {
     indices_text(alloc, book, by, longest)
