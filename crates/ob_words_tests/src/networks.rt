@@ -1,5 +1,6 @@
 //! Tests of the network: its parts by name and by number, and the nodes that are supplied. Its
 //! limits are tested in `ob_total_tests`.
+ghost use Rattle.std.specs.Prelude.{◌≤◌};
 ghost use Rattle.ob_net.specs.Supplies.{IsOf};
 
 use ob_command::{Command, NewDevice, read_body};
@@ -27,24 +28,30 @@ device TIE S2 S3 open 0 -
 // Adds the part that a body text names; answers why it is refused, or None.
 fn add(net: &mut Net, body: &str) -> Result<Option<Refusal>, Fail> {
     let command = read_body(body.as_bytes()).ok_or("a command")?;
-    net.reserve_one()?;
-    match command {
-        Command::Bus { name } => Ok(net.add_bus(name).err()),
-        Command::Section { name, feeder } => Ok(net.add_section(name, feeder.get()).err()),
-        Command::Device(device) => {
-            let NewDevice {
-                name,
-                ends,
-                normal,
-                life,
-            } = device;
-            Ok(
-                net.add_device(name, *ends.a(), *ends.b(), normal, life.life())
-                    .err(),
-            )
-        }
+    match &command {
+        Command::Bus { name } => add_bus(net, *name),
+        Command::Section { name, feeder } => add_section(net, *name, feeder.get()),
+        Command::Device(device) => add_device(net, device),
         _ => Err("no part of a network".into()),
     }
+}
+
+fn add_bus(net: &mut Net, name: Name) -> Result<Option<Refusal>, Fail> {
+    net.reserve_one()?;
+    Ok(net.add_bus(name).err())
+}
+
+fn add_section(net: &mut Net, name: Name, feeder: u8) -> Result<Option<Refusal>, Fail>
+    requires { 1 ≤ feeder }
+{
+    net.reserve_one()?;
+    Ok(net.add_section(name, feeder).err())
+}
+
+fn add_device(net: &mut Net, device: &NewDevice) -> Result<Option<Refusal>, Fail> {
+    net.reserve_one()?;
+    let (a, b, life) = (*device.ends.a(), *device.ends.b(), device.life.life());
+    Ok(net.add_device(device.name, a, b, device.normal, life).err())
 }
 
 /// Adds the parts that body texts name, one a line; a line may end with ` => ` and the name of the
