@@ -111,18 +111,18 @@ fn each_change_is_adopted_once(rt: HostRuntime) -> Result<(), Fail> {
 // The number that a command is about: the code of a cause, or the number of a node, a device, a
 // customer, an entry or a day.
 fn number_of(resolved: &Resolved) -> u32 {
-    match *resolved {
+    match resolved {
         Resolved::Cause { code, .. } => u32::from(code.get()),
-        Resolved::Node { number, .. } => u32::from(number),
-        Resolved::Device { number, .. } => u32::from(number),
-        Resolved::Life { device, .. } => u32::from(device),
+        Resolved::Node { number, .. } => u32::from(*number),
+        Resolved::Device { number, .. } => u32::from(*number),
+        Resolved::Life { device, .. } => u32::from(*device),
         Resolved::Customer(customer) => customer.no,
         Resolved::Service { old, .. } => old.no,
         Resolved::Entered(entry) => entry.no,
         Resolved::Corrected { old, .. } => old.no,
         Resolved::Withdrawn { old, .. } => old.no,
-        Resolved::Marked { day, .. } => u32::from(day),
-        Resolved::Unmarked { day } => u32::from(day),
+        Resolved::Marked { day, .. } => u32::from(*day),
+        Resolved::Unmarked { day } => u32::from(*day),
     }
 }
 

@@ -6,7 +6,7 @@ use ob_book::Book;
 use ob_command::read_body;
 use ob_net::Fault;
 use ob_rows::{InterruptionRow, RowSink, each_row};
-use ob_sweep::Windowed;
+use ob_sweep::{Timeline, Windowed};
 use ob_time::Period;
 use std::alloc::Global;
 use std::process::Abort;
@@ -45,7 +45,7 @@ pub fn book_of(alloc: Global, span: Span, scripts: &[&str]) -> Result<Book<Windo
     Ok(book)
 }
 
-fn enter(alloc: Global, book: &mut Book<Windowed>, script: &str) -> Result<(), Fail> {
+fn enter<T: Timeline>(alloc: Global, book: &mut Book<T>, script: &str) -> Result<(), Fail> {
     for body in script.lines() {
         let command = read_body(body.as_bytes()).ok_or("a command")?;
         let _ = act_on(alloc, book, &command)?;
@@ -73,7 +73,7 @@ fn line_of(alloc: Global, row: &InterruptionRow) -> Result<String, Fail> {
 fn or_dash(alloc: Global, number: Option<u64>) -> Result<String, Fail> {
     match number {
         Some(number) => Ok(format!(in alloc; "{number}")?),
-        None => Ok(format!(in alloc; "-")?),
+        None => Ok(String::from_str(alloc, "-")?),
     }
 }
 

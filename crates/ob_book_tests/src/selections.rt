@@ -5,7 +5,7 @@ use crate::rows::book_of;
 use crate::step::Span;
 use ob_book::Book;
 use ob_index::Which;
-use ob_net::Second;
+use ob_net::{Second, Stop};
 use ob_selections::{By, Selection, figures_of, indices_text, selections_law, sums_law};
 use ob_sweep::Windowed;
 use std::alloc::Global;
@@ -91,21 +91,33 @@ S9,all,259200,172800,2/3,0.667,1,172800,1,0,3/2,1.500,4320/1,4320.000,2880/1,288
     ),
 ];
 
-// Checks how many lines a text of indices has, and some of them.
+// Checks the names of the columns, how many lines a text of indices has, and some of them. The
+// texts are parameters: a function that has a long constant and a loop takes long to prove.
+fn has_lines(rt: &impl Abort, text: &str, header: &str, count: usize, wanted: &str) {
+    assert!(rt; text.lines().next() == Some(header));
+    assert!(rt; text.lines().count() == count);
+    for line in wanted.lines() {
+        assert!(rt; text.lines().any(|found| found == line), "{line}");
+    }
+}
+
+// The text of indices of a book. In one function with the check of the text it takes half a minute
+// to prove.
+fn text_by(alloc: Global, book: &Book<Windowed>, by: By, longest: Second) -> Result<Vec<u8>, Stop> {
+    indices_text(alloc, book, by, longest)
+}
+
 fn is_listed(
     rt: &impl Abort,
     alloc: Global,
     book: &Book<Windowed>,
+    header: &str,
     listed: &Listed,
 ) -> Result<(), Fail> {
     let (by, longest, count, wanted) = *listed;
-    let text = String::from_utf8(indices_text(alloc, book, by, longest)?).map_err(|_| "no text")?;
-    let lines = text.as_str();
-    assert!(rt; lines.lines().next() == Some(HEADER));
-    assert!(rt; lines.lines().count() == count);
-    for line in wanted.lines() {
-        assert!(rt; lines.lines().any(|found| found == line), "{line}");
-    }
+    let text = text_by(alloc, book, by, longest)?;
+    let text = str::from_utf8(&text).map_err(|_| "no text")?;
+    has_lines(rt, text, header, count, wanted);
     Ok(())
 }
 
@@ -122,7 +134,7 @@ fn counts_on(book: &Book<Windowed>, feeder: u8, which: Which) -> (u64, u64, u64,
         longest: 300,
     };
     let figures = figures_of(book, &selection);
-    let counts = figures.counts;
+    let counts = &figures.counts;
     (counts.ci, counts.csi, counts.cn, counts.mi, figures.served)
 }
 
@@ -141,7 +153,7 @@ fn indices_of_two_outages(rt: HostRuntime) -> Result<(), Fail> {
     sums_law();
     let book = book_of(rt.alloc(), THREE_DAYS, &[TWO_FEEDERS, OUTAGES])?;
     for listed in &LISTED {
-        is_listed(&rt, rt.alloc(), &book, listed)?;
+        is_listed(&rt, rt.alloc(), &book, HEADER, listed)?;
     }
     Ok(())
 }

@@ -12,10 +12,10 @@ use Rattle.ob_net.specs.Supplies.{AreChanged}
 use Rattle.ob_net.proofs.Components.{explored_first, same_among}
 
 -- the device k is closed: it, and the others as before
-closed_here : (ps : List Pos) (k : ℕ) → k < length ps → IsClosedAt (set ps k Closed) k
+pub closed_here : (ps : List Pos) (k : ℕ) → k < length ps → IsClosedAt (set ps k Closed) k
 closed_here ps k l = get_or-set_at ps k k Closed Opened refl l
 
-closed_more : (ps : List Pos) (k j : ℕ) → k < length ps → IsClosedAt ps j → IsClosedAt (set ps k Closed) j
+pub closed_more : (ps : List Pos) (k j : ℕ) → k < length ps → IsClosedAt ps j → IsClosedAt (set ps k Closed) j
 closed_more ps k j l c =
     elim (cases_eq j k) [
       | inl e ↦ get_or-set_at ps k j Closed Opened e l

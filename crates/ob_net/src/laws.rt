@@ -1,5 +1,6 @@
-//! The law of the supply test, for proofs that call it. It does nothing when it runs.
+//! The laws of the supply test, for proofs that call them. They do nothing when they run.
 ghost use Rattle.std.specs.Prelude.{◌↔◌, ℕ, List, IsTrue};
+ghost use Rattle.ob_net.specs.Apart.{ApartLaw};
 ghost use Rattle.ob_base.specs.declared.Pos.{Pos as APos};
 ghost use Rattle.ob_net.specs.declared.net.Device.{Device as ADevice};
 ghost use Rattle.ob_net.specs.Network.{Network};
@@ -13,4 +14,11 @@ pub fn walk_law()
         → IsTrue (is_supplied net positions v) ↔ IsSupplied net positions v }
     ensures connected { (closed : List ADevice) (v w : ℕ)
         → IsTrue (is_connected closed v w) ↔ ((walk : List ℕ) × LeadsTo closed v walk w) }
+{}
+
+/// States the law of a set of nodes that closed devices join to no other node but GRID: whether a
+/// node of the set is supplied depends on the devices with an end in the set alone, and whether any
+/// other node is supplied depends on the other devices alone.
+pub fn apart_law()
+    ensures { ApartLaw }
 {}

@@ -14,15 +14,15 @@ use Rattle.sqlite.specs.declared.types.Value.TheVariants.{Int}
 use Rattle.sqlite.specs.Table as sql
 use Rattle.sqlite.specs.State.{State}
 use Rattle.sqlite.specs.Effect.{IsDatabase}
-use Rattle.sqlite.specs.Tree.{rowid, without_rowid}
+use Rattle.sqlite.specs.Tree.{Trees, rowid, without_rowid}
 use Rattle.sqlite_schema.specs.declared.schema.Constraint.TheVariants.{Unique}
-use Rattle.sqlite_schema.specs.Rules.{agree, clashes, differ, passes_checks}
+use Rattle.sqlite_schema.specs.Rules.{agree, clashes, differ, passes_checks, Keeps}
 use Rattle.sqlite_rules.specs.Lists.{Has}
 use Rattle.sqlite_rules.specs.Edit.{id_in, is_taken, next_rowid}
 use Rattle.sqlite_rules.proofs.ListLemmas.{has_got}
 use Rattle.ob_sql_rows.specs.Schema.{book_schema, moved_table, posting_table}
-use Rattle.ob_sql_rows.specs.Rows.{Always, shown, is_posting, posting_row, HasPosting}
-use Rattle.ob_sql_rows.specs.Rules.{LetsMoved, LetsPosting, HasRoom, is_moved}
+use Rattle.ob_sql_rows.specs.Rows.{Always, Tables, Holds, shown, is_posting, posting_row, HasPosting}
+use Rattle.ob_sql_rows.specs.Rules.{LetsMoved, LetsPosting, HasRoom, is_moved, IsNumbered}
 use Rattle.ob_sql_rows.specs.Steps.{Failed, HasFailed, LetsIn}
 use Rattle.ob_sql_rows.specs.declared.table.Table.TheVariants.{Moved, Posting}
 use Rattle.ob_sql_rows.proofs.Adding.{moved_insert, moved_terms, chosen_moved, posting_insert, posting_terms, chosen_posting}
@@ -36,10 +36,10 @@ use Rattle.ob_sql_rows.proofs.Refusing.{insert_edit, update_edit, update_left, u
 use Rattle.ob_sql_rows.proofs.Texts.{moved_fails, posting_fails, amount_fails}
 
 -- ---- what a command moved
-abbrev a_moved : sql.Table
+abbrev pub a_moved : sql.Table
 a_moved = record moved_table { tree = 12 }
 
-abbrev moved_at : ℤ → ℕ → ℕ → ℕ → ℤ → Row
+abbrev pub moved_at : ℤ → ℕ → ℕ → ℕ → ℤ → Row
 moved_at hidden id dim key delta = Int hidden ∷ Int (pos id) ∷ Int (pos dim) ∷ Int (pos key) ∷ Int delta ∷ []
 
 moved_put : (id dim key : ℕ) (delta : ℤ) (rows : List Row) → chosen_moved id dim key delta rows ≡ moved_at (next_rowid rows) id dim key delta
@@ -58,18 +58,18 @@ moved_checked : (hidden : ℤ) (id dim key : ℕ) (delta : ℤ) → delta ≢ po
 unfolding binary
 moved_checked hidden id dim key delta other = ap (λ b. not (is_false (from_truth (Some b))) && true) (ap is_ne (value_cmp-Int delta (pos 0)) ∙ differs delta other)
 
-moved_enters : (s : State) (id dim key : ℕ) (delta : ℤ) → LetsIn s Always (LetsMoved id dim key delta)
-    → Enters book_schema s.now.trees a_moved (s.now.trees 12) (moved_at (pos (1 + length (s.now.trees 12))) id dim key delta)
-moved_enters s id dim key delta lets =
-    let db = s.now.trees in
+-- the row of a free key enters its table under the next number
+pub moved_enters : (db : Trees) (t : Tables) (id dim key : ℕ) (delta : ℤ) → Holds db t → IsNumbered (db 12) → Keeps Unique book_schema db → LetsMoved id dim key delta t
+    → Enters book_schema db a_moved (db 12) (moved_at (pos (1 + length (db 12))) id dim key delta)
+moved_enters db t id dim key delta holds numbered keeps lets =
     let rows = db 12 in
     let row = moved_at (pos (1 + length rows)) id dim key delta in
-    let many = as_many Moved rows (lets.tables Moved) (lets.holds.rows Moved) in
-    let room : 1 + length rows < 2 ^ 63 = omega (arith, many, lets.allowed.3) in
-    let new : clashes plain (1 ∷ 2 ∷ 3 ∷ []) rows row ≡ false = clash_free Moved (is_moved id dim key) (1 ∷ 2 ∷ 3 ∷ []) row (λ r h. h) db lets.tables lets.holds lets.allowed.1 in
+    let many = as_many Moved rows (t Moved) (holds.rows Moved) in
+    let room : 1 + length rows < 2 ^ 63 = omega (arith, many, lets.3) in
+    let new : clashes plain (1 ∷ 2 ∷ 3 ∷ []) rows row ≡ false = clash_free Moved (is_moved id dim key) (1 ∷ 2 ∷ 3 ∷ []) row (λ r h. h) db t holds lets.1 in
     let entry = storable (Int (pos id) ∷ Int (pos dim) ∷ Int (pos key) ∷ Int (pos (1 + length rows)) ∷ []) (omega arith) (omega arith) (tt, (tt, (tt, (tt, tt)))) in
-    enters a_moved 8 db rows row (1 + length rows) refl (λ r there. there) ((obeyed s.now lets.schema lets.sound).rules Unique) refl room
-    (free_number rows row lets.numbered.moved refl) (ap (λ b. not b && true) new) refl refl (moved_checked (pos (1 + length rows)) id dim key delta lets.allowed.2)
+    enters a_moved 8 db rows row (1 + length rows) refl (λ r there. there) keeps refl room
+    (free_number rows row numbered refl) (ap (λ b. not b && true) new) refl refl (moved_checked (pos (1 + length rows)) id dim key delta lets.2)
     (storable_row row (omega arith) (omega arith) (tt, (tt, (tt, (tt, (tt, tt))))))
     (λ e. absurd (omega (arith, e)), (λ e. absurd (omega (arith, e)), (λ e. absurd (omega (arith, e)), (λ e. absurd (omega (arith, e)), (λ _. entry, (λ e. absurd (omega (arith, e)), tt))))))
 
@@ -83,7 +83,8 @@ lets_moved old new id dim key delta failed lets =
     moved_put id dim key delta rows ∙ ap (λ n. moved_at n id dim key delta) (next_number rows lets.numbered.moved) in
     let edit = insert_edit db a_moved moved_terms params in
     moved_fails old new id dim key delta lets.schema failed
-    (subst (Enters book_schema db a_moved rows) (sym put) (moved_enters old id dim key delta lets))
+    (subst (Enters book_schema db a_moved rows) (sym put)
+    (moved_enters db lets.tables id dim key delta lets.holds lets.numbered.moved ((obeyed old.now lets.schema lets.sound).rules Unique) lets.allowed))
     (inserted_refers db edit (has_got book_schema.tables 8 a_moved refl) (sound_book old lets.schema lets.sound) refl (chosen_moved id dim key delta rows) refl (λ next done. (
       finds_command db next edit done lets.tables id 1 (chosen_moved id dim key delta rows) (λ e. omega (arith, e)) lets.holds lets.allowed.0 (ap (λ r. column r 1) put),
       tt,

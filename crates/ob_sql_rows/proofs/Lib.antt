@@ -1,9 +1,11 @@
 pub mod Adding
 pub mod Altering
 pub mod Answers
+pub mod Blocks
 pub mod Casts
 pub mod Creating
 pub mod Defining
+pub mod Eight
 pub mod Entering
 pub mod Failing
 pub mod Finding

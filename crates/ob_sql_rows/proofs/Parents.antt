@@ -183,12 +183,19 @@ own_row tables next refs news row is own x ref fresh has = elim (subst (λ l. Ha
   | inr none ↦ absurd none
 ]
 
--- an INSERT of one row that has its parents
+-- an INSERT of rows that have their parents
+pub inserted_all_refers : (db : Trees) (edit : Edit) → Has book_schema.tables edit.table → IsSound book_schema db → edit.gone ≡ []
+    → ((next : Trees) → Applies book_schema Enforced db edit next → (row : Row) (ref : Reference) → Has edit.news row → Has edit.table.references ref → has_parent book_schema.tables next row ref ≡ true)
+    → (next : Trees) → Applies book_schema Enforced db edit next → Refers All book_schema next
+inserted_all_refers db edit listed sound gone own next done =
+    book_after db next edit listed sound done (λ _. kept_heirs book_schema trees_apart db next edit listed done gone) (own next done)
+
+-- of one row
 pub inserted_refers : (db : Trees) (edit : Edit) → Has book_schema.tables edit.table → IsSound book_schema db → edit.gone ≡ [] → (row : Row) → edit.news ≡ row ∷ []
     → ((next : Trees) → Applies book_schema Enforced db edit next → AllByRecursion (λ ref. has_parent book_schema.tables next row ref ≡ true) edit.table.references)
     → (next : Trees) → Applies book_schema Enforced db edit next → Refers All book_schema next
-inserted_refers db edit listed sound gone row news own next done =
-    book_after db next edit listed sound done (λ _. kept_heirs book_schema trees_apart db next edit listed done gone) (own_row book_schema.tables next edit.table.references edit.news row news (own next done))
+inserted_refers db edit listed sound gone row news own =
+    inserted_all_refers db edit listed sound gone (λ next done. own_row book_schema.tables next edit.table.references edit.news row news (own next done))
 
 -- an UPDATE of the one row of a rowid, which stays: each reference is as it was, or goes to what is there
 pub updated_refers : (db : Trees) (edit : Edit) → Has book_schema.tables edit.table → IsSound book_schema db

@@ -182,12 +182,18 @@ stands schema db edit stop none lets it = refused it.0 it.1
     refused why (inr (inl big)) = lets.sized big.0 big.1 big.2
     refused why (inr (inr goes)) = settles why goes.0 goes.2.0 (rw none at goes.2.1)
 
+-- a row that passes the rules can be stored
+pub not_oversized : (schema : Schema) (db : Trees) (table : sql.Table) (left : List Row) (row it : Row) → Enters schema db table left row → it ≡ row → ¬ IsOversized schema table it
+not_oversized schema db table left row it enters same (inl big) = big (subst (IsStorableRow (table_reals table)) (sym same) enters.storable)
+not_oversized schema db table left row it enters same (inr (i, listed, here, big)) =
+    big (subst (λ r. IsStorable (index_reals (table_reals table) i.columns) (entry_of i.columns r)) (sym same) (enters.entries i listed here))
+
 -- the one row that it puts in passes the rules
 pub entered : (schema : Schema) (db : Trees) (edit : Edit) (row : Row) → Enters schema db edit.table (left_by db edit) row → edit.news ≡ row ∷ [] → is_referred schema Enforced edit ≡ true
     → ((next : Trees) → Applies schema Enforced db edit next → Refers All schema next) → IsLetIn schema db edit
 entered schema db edit row enters one referred parents = record {
   refused = refusal;
-  sized = λ it listed. large it (is_row it (subst (λ l. Has l it) one listed));
+  sized = λ it listed. not_oversized schema db edit.table (left_by db edit) row it enters (is_row it (subst (λ l. Has l it) one listed));
   parents = parents;
 }
   where
@@ -211,11 +217,6 @@ entered schema db edit row enters one referred parents = record {
     is_row : (it : Row) → Has (row ∷ []) it → it ≡ row
     is_row it (inl same) = same
     is_row it (inr none) = absurd none
-
-    large : (it : Row) → it ≡ row → ¬ IsOversized schema edit.table it
-    large it same (inl big) = big (subst (IsStorableRow (table_reals edit.table)) (sym same) enters.storable)
-    large it same (inr (i, listed, here, big)) =
-        big (subst (λ r. IsStorable (index_reals (table_reals edit.table) i.columns) (entry_of i.columns r)) (sym same) (enters.entries i listed here))
 
 -- it takes rows out only
 pub cleared : (schema : Schema) (db : Trees) (edit : Edit) → edit.news ≡ [] → Keeps Unique schema (with_tree db edit.table.tree (left_by db edit)) → is_referred schema Enforced edit ≡ true
@@ -276,8 +277,11 @@ no_rows = record { schema = record { tables = []; indexes = []; views = [] }; tr
 
 -- ---- the statements
 
+abbrev pub insert_all_edit : Trees → sql.Table → List Row → Edit
+insert_all_edit db table sources = edit_of db table [] Chosen 0 sources
+
 abbrev pub insert_edit : Trees → sql.Table → List Term → Row → Edit
-insert_edit db table terms params = edit_of db table [] Chosen 0 (eval_all terms (params ∷ []) ∷ [])
+insert_edit db table terms params = insert_all_edit db table (eval_all terms (params ∷ []) ∷ [])
 
 abbrev pub update_edit : Trees → sql.Table → List Term → Row → Row → Edit
 update_edit db table shows params row = edit_of db table (ids_of (eval_all shows (params ∷ row ∷ []) ∷ [])) Given 1 (eval_all shows (params ∷ row ∷ []) ∷ [])
@@ -307,22 +311,22 @@ module _ (old : State) (table : sql.Table) (params : Row) where
   not_concluded w stop refers (inr (doubt, tested, inl (why, returned, same))) = never returned
   not_concluded w stop refers (inr (doubt, tested, inr (rows, returned, gives))) = never gives
 
-  module _ (terms : List Term) (width : ℕ) (uncounted : table.is_counted ≡ false) (timeless : stamped table params ≡ params)
-      (sourced : IsSource base params (Values terms width) (eval_all terms (params ∷ []) ∷ []))
-      (idle : (new : Row) → works old.now.schema Enforced 0 table.tree [] (new ∷ []) ≡ [])
-      (lets : IsLetIn old.now.schema old.now.trees (insert_edit old.now.trees table terms params)) where
+  module _ (terms : List Term) (width : ℕ) (sources : List Row) (uncounted : table.is_counted ≡ false) (timeless : stamped table params ≡ params)
+      (sourced : IsSource base params (Values terms width) sources)
+      (idle : works old.now.schema Enforced 0 table.tree [] (insert_all_edit old.now.trees table sources).news ≡ [])
+      (lets : IsLetIn old.now.schema old.now.trees (insert_all_edit old.now.trees table sources)) where
     as_put : (rows : List Row) (counter : Option Row) → Sourced old.step_limit base (stamped table params) (Values terms width) (Ok rows)
-        → edit_of old.now.trees table [] (rowids_for table (count_of counter)) 0 rows ≡ insert_edit old.now.trees table terms params
+        → edit_of old.now.trees table [] (rowids_for table (count_of counter)) 0 rows ≡ insert_all_edit old.now.trees table sources
     as_put rows counter given =
         ap (λ how. edit_of old.now.trees table [] how 0 rows) (chosen_for table (count_of counter) uncounted)
         ∙ ap (edit_of old.now.trees table [] Chosen 0) ((subst (λ p. IsSource base p (Values terms width) rows) timeless given).1 ∙ sym sourced.1)
 
-    put_stands : (stop : Option Error) → ¬ Edited old.now.schema Enforced old.now.trees (insert_edit old.now.trees table terms params) (Err stop)
-    put_stands stop = stands old.now.schema old.now.trees (insert_edit old.now.trees table terms params) stop (idle (insert_row old.now.trees table terms params)) lets
+    put_stands : (stop : Option Error) → ¬ Edited old.now.schema Enforced old.now.trees (insert_all_edit old.now.trees table sources) (Err stop)
+    put_stands stop = stands old.now.schema old.now.trees (insert_all_edit old.now.trees table sources) stop idle lets
 
     put_stops : (stop : Option Error) → Inserts the_task (Values terms width) old.now.trees (Err stop) → IsSome old.step_limit
     put_stops stop (inl (why, refused, same)) =
-        source_refused old.step_limit base params terms width (eval_all terms (params ∷ []) ∷ []) sourced why (subst (λ p. Sourced old.step_limit base p (Values terms width) (Err why)) timeless refused)
+        source_refused old.step_limit base params terms width sources sourced why (subst (λ p. Sourced old.step_limit base p (Values terms width) (Err why)) timeless refused)
     put_stops stop (inr (rows, given, inl (why, counts, same))) = absurd (no_counter the_task old.now.trees why uncounted counts)
     put_stops stop (inr (rows, given, inr (counter, counts, inl (why, edits, same)))) =
         absurd (put_stands why (subst (λ e. Edited old.now.schema Enforced old.now.trees e (Err why)) (as_put rows counter given) edits))
@@ -330,9 +334,9 @@ module _ (old : State) (table : sql.Table) (params : Row) where
         absurd (no_count the_task mid counter (fold higher (count_of counter) (edit_of old.now.trees table [] (rowids_for table (count_of counter)) 0 rows).news) why uncounted tops)
     put_stops stop (inr (rows, given, inr (counter, counts, inr (mid, edits, inr (next, tops, gives))))) = absurd (never gives)
 
-    put_applies : (w : Written) → Inserts the_task (Values terms width) old.now.trees (Ok w) → Applies old.now.schema Enforced old.now.trees (insert_edit old.now.trees table terms params) w.trees
+    put_applies : (w : Written) → Inserts the_task (Values terms width) old.now.trees (Ok w) → Applies old.now.schema Enforced old.now.trees (insert_all_edit old.now.trees table sources) w.trees
     put_applies w h =
-        let edit = insert_edit old.now.trees table terms params in
+        let edit = insert_all_edit old.now.trees table sources in
         let given = went h in
         let counted = went given.2 in
         let written = went counted.2 in
@@ -340,8 +344,7 @@ module _ (old : State) (table : sql.Table) (params : Row) where
         let kept : last.0 ≡ written.0 = settled the_task written.0 last.0 counted.0 (fold higher (count_of counted.0) (edit_of old.now.trees table [] (rowids_for table (count_of counted.0)) 0 given.0).news) uncounted last.1 in
         let trees : w.trees ≡ written.0 = ap (λ (it : Written). it.trees) (same_value last.2) ∙ kept in
         let went_in : Writes old.now.schema Enforced old.now.trees edit (Ok written.0) = subst (λ e. Writes old.now.schema Enforced old.now.trees e (Ok written.0)) (as_put given.0 counted.0 given.1) written.1 in
-        subst (Applies old.now.schema Enforced old.now.trees edit) (sym trees)
-        (one_step old.now.schema Enforced old.now.trees written.0 edit (idle (insert_row old.now.trees table terms params)) went_in)
+        subst (Applies old.now.schema Enforced old.now.trees edit) (sym trees) (one_step old.now.schema Enforced old.now.trees written.0 edit idle went_in)
 
     put_refused : (place : ℕ) (stop : Option Error) → OnRows the_task (mode_of old) None (Insert place (Values terms width)) old.now.trees (Err stop) → IsSome old.step_limit
     put_refused place stop (inl (why, wrote, same)) = put_stops why wrote
@@ -412,14 +415,14 @@ module _ (schema : Schema) (place : ℕ) (table : sql.Table) (found : slice_get 
       subst (λ o. AtPlace (λ t. OnRows (record { limit = old.step_limit; keys = (mode_of old).keys; schema = old.now.schema; table = t; params = params }) (mode_of old) None command old.now.trees) o (Err stop))
       (ap (λ (s : Schema). slice_get s.tables place) has ∙ found) h
 
-  -- an INSERT of one row that the rules let in
-  pub insert_refused : (terms : List Term) (width : ℕ) (text : List ℕ) (params : Row) → table.is_counted ≡ false → stamped table params ≡ params → IsSource no_rows params (Values terms width) (eval_all terms (params ∷ []) ∷ [])
-      → ((new : Row) → works schema Enforced 0 table.tree [] (new ∷ []) ≡ [])
-      → (old : State) → old.now.schema ≡ schema → IsLetIn schema old.now.trees (insert_edit old.now.trees table terms params)
+  -- an INSERT of rows that the rules let in
+  pub insert_refused : (terms : List Term) (width : ℕ) (sources : List Row) (text : List ℕ) (params : Row) → table.is_counted ≡ false → stamped table params ≡ params → IsSource no_rows params (Values terms width) sources
+      → (old : State) → works schema Enforced 0 table.tree [] (insert_all_edit old.now.trees table sources).news ≡ []
+      → old.now.schema ≡ schema → IsLetIn schema old.now.trees (insert_all_edit old.now.trees table sources)
       → (stop : Option Error) → Does old.step_limit (mode_of old) params old.now text None (Insert place (Values terms width)) (Err stop) → IsSome old.step_limit
-  insert_refused terms width text params uncounted timeless sourced idle old has lets stop does =
-      put_refused old table params terms width uncounted timeless sourced (subst (λ s. (new : Row) → works s Enforced 0 table.tree [] (new ∷ []) ≡ []) (sym has) idle)
-      (subst (λ s. IsLetIn s old.now.trees (insert_edit old.now.trees table terms params)) (sym has) lets) place stop
+  insert_refused terms width sources text params uncounted timeless sourced old idle has lets stop does =
+      put_refused old table params terms width sources uncounted timeless sourced (subst (λ s. works s Enforced 0 table.tree [] (insert_all_edit old.now.trees table sources).news ≡ []) (sym has) idle)
+      (subst (λ s. IsLetIn s old.now.trees (insert_all_edit old.now.trees table sources)) (sym has) lets) place stop
       (on_rows (Insert place (Values terms width)) params old stop has does)
 
   -- an UPDATE of the one row that passes
@@ -447,6 +450,16 @@ module _ (schema : Schema) (place : ℕ) (table : sql.Table) (found : slice_get 
       (on_rows (Delete place (program_of tests shows table.tree)) params old stop has does)
 
   -- ---- and so it fails only where the store does, or where its query may take so many steps only
+  pub insert_all_lets : (terms : List Term) (width : ℕ) (sources : List Row) (text : List ℕ) (params : Row) → IsWrittenAs schema text params (Insert place (Values terms width)) (understood schema text)
+      → table.is_counted ≡ false → stamped table params ≡ params → IsSource no_rows params (Values terms width) sources
+      → (old new : State) → works schema Enforced 0 table.tree [] (insert_all_edit old.now.trees table sources).news ≡ []
+      → old.now.schema ≡ schema → Failed text params old new → IsLetIn schema old.now.trees (insert_all_edit old.now.trees table sources) → HasFailed old new
+  insert_all_lets terms width sources text params written uncounted timeless sourced old new idle has failed lets =
+      elim (fails_as schema text params (Insert place (Values terms width)) tt written old new has failed) [
+        | inl fault ↦ fault
+        | inr stopped ↦ inr (inr (insert_refused terms width sources (statement_of text (understood schema text)) params uncounted timeless sourced old idle has lets stopped.0 stopped.1))
+      ]
+
   pub insert_lets : (terms : List Term) (width : ℕ) (text : List ℕ) (params : Row) → IsWrittenAs schema text params (Insert place (Values terms width)) (understood schema text)
       → table.is_counted ≡ false → stamped table params ≡ params → IsSource no_rows params (Values terms width) (eval_all terms (params ∷ []) ∷ [])
       → ((new : Row) → works schema Enforced 0 table.tree [] (new ∷ []) ≡ []) → references_fit schema table true false ≡ true
@@ -454,12 +467,8 @@ module _ (schema : Schema) (place : ℕ) (table : sql.Table) (found : slice_get 
       → Enters schema old.now.trees table (old.now.trees table.tree) (insert_row old.now.trees table terms params)
       → ((next : Trees) → Applies schema Enforced old.now.trees (insert_edit old.now.trees table terms params) next → Refers All schema next) → HasFailed old new
   insert_lets terms width text params written uncounted timeless sourced idle fit old new has failed enters parents =
-      let edit = insert_edit old.now.trees table terms params in
-      let lets = entered schema old.now.trees edit (insert_row old.now.trees table terms params) enters refl fit parents in
-      elim (fails_as schema text params (Insert place (Values terms width)) tt written old new has failed) [
-        | inl fault ↦ fault
-        | inr stopped ↦ inr (inr (insert_refused terms width (statement_of text (understood schema text)) params uncounted timeless sourced idle old has lets stopped.0 stopped.1))
-      ]
+      insert_all_lets terms width (eval_all terms (params ∷ []) ∷ []) text params written uncounted timeless sourced old new (idle (insert_row old.now.trees table terms params)) has failed
+      (entered schema old.now.trees (insert_edit old.now.trees table terms params) (insert_row old.now.trees table terms params) enters refl fit parents)
 
   pub update_lets : (tests shows : List Term) (text : List ℕ) (params : Row) → IsWrittenAs schema text params (Update place (record { lets = []; body = whole tests shows table.tree })) (understood schema text)
       → given_at [] table.tree ≡ None → ¬ IsUntyped schema (program_of tests shows table.tree) params

@@ -78,14 +78,14 @@ module _ (schema : Schema) (at : ℕ) (table : Table) (found : slice_get schema.
       subst (λ o. AtPlace (λ t. OnRows (record { limit = old.step_limit; keys = (mode_of old).keys; schema = old.now.schema; table = t; params = params }) (mode_of old) None command old.now.trees) o (Ok (tally, new.now)))
       (ap (λ (s : Schema). slice_get s.tables at) has ∙ found) h
 
-  -- one row is put in
-  pub inserted : (terms : List Term) (width : ℕ) (old new : State) (text : List ℕ) (params : Row) (count : ℕ)
-      → table.is_counted ≡ false → stamped table params ≡ params → value_rows params width (length terms / width) terms ≡ eval_all terms (params ∷ []) ∷ []
-      → ((new : Row) → works schema Enforced 0 table.tree [] (new ∷ []) ≡ [])
+  -- the rows of an INSERT are put in, numbered one after another
+  pub inserted_all : (terms : List Term) (width : ℕ) (sources : List Row) (old new : State) (text : List ℕ) (params : Row) (count : ℕ)
+      → table.is_counted ≡ false → stamped table params ≡ params → value_rows params width (length terms / width) terms ≡ sources
+      → works schema Enforced 0 table.tree [] (edit_of old.now.trees table [] Chosen 0 sources).news ≡ []
       → old.now.schema ≡ schema → Writes old new None (Insert at (Values terms width)) text params count
-      → Rewrites old.now new.now table.tree (put_row (with_rowid Chosen (old.now.trees table.tree) (cast_row table (eval_all terms (params ∷ [])))) (old.now.trees table.tree))
-      × (are_fresh (old.now.trees table.tree) (with_rowid Chosen (old.now.trees table.tree) (cast_row table (eval_all terms (params ∷ []))) ∷ []) ≡ true)
-  inserted terms width old new text params count uncounted timeless single idle has w =
+      → Rewrites old.now new.now table.tree (edited old.now.trees (edit_of old.now.trees table [] Chosen 0 sources))
+      × (are_fresh (old.now.trees table.tree) (edit_of old.now.trees table [] Chosen 0 sources).news ≡ true)
+  inserted_all terms width sources old new text params count uncounted timeless all idle has w =
       let db = old.now.trees in
       let done = went (placed old new (Insert at (Values terms width)) text params count w.tally has w.changed) in
       let ended = concluded (task_of old params) (mode_of old) done.0 w.tally new.now done.2 in
@@ -97,13 +97,12 @@ module _ (schema : Schema) (at : ℕ) (table : Table) (found : slice_get schema.
       let trees : done.0.trees ≡ written.0 = ap (λ (it : Written). it.trees) (same_value last.2) ∙ kept in
       let now : new.now.trees ≡ written.0 = ap (λ (d : Database). d.trees) ended ∙ trees in
       let edit = edit_of db table [] (rowids_for table (count_of counted.0)) 0 given.0 in
-      let rows : given.0 ≡ eval_all terms (params ∷ []) ∷ [] = given.1.1 ∙ ap (λ p. value_rows p width (length terms / width) terms) timeless ∙ single in
+      let rows : given.0 ≡ sources = given.1.1 ∙ ap (λ p. value_rows p width (length terms / width) terms) timeless ∙ all in
       let chosen : rowids_for table (count_of counted.0) ≡ Chosen = chosen_for table (count_of counted.0) uncounted in
-      let same : edit.news ≡ (with_rowid Chosen (db table.tree) (cast_row table (eval_all terms (params ∷ [])))) ∷ [] =
+      let same : edit.news ≡ (edit_of db table [] Chosen 0 sources).news =
       ap (λ how. (edit_of db table [] how 0 given.0).news) chosen ∙ ap (λ all. (edit_of db table [] Chosen 0 all).news) rows in
-      let row = with_rowid Chosen (db table.tree) (cast_row table (eval_all terms (params ∷ []))) in
-      let applied = one_step old.now.schema Enforced db written.0 edit (ap (λ s. works s Enforced 0 table.tree [] edit.news) has ∙ ap (λ all. works schema Enforced 0 table.tree [] all) same ∙ idle row) written.1 in
-      let put : edited db edit ≡ put_row (with_rowid Chosen (db table.tree) (cast_row table (eval_all terms (params ∷ [])))) (db table.tree) =
+      let applied = one_step old.now.schema Enforced db written.0 edit (ap (λ s. works s Enforced 0 table.tree [] edit.news) has ∙ ap (λ all. works schema Enforced 0 table.tree [] all) same ∙ idle) written.1 in
+      let put : edited db edit ≡ edited db (edit_of db table [] Chosen 0 sources) =
       ap (λ how. edited db (edit_of db table [] how 0 given.0)) chosen ∙ ap (λ all. edited db (edit_of db table [] Chosen 0 all)) rows in (
         record {
           schema = ap (λ (d : Database). d.schema) ended;
@@ -112,6 +111,17 @@ module _ (schema : Schema) (at : ℕ) (table : Table) (found : slice_get schema.
         },
         sym (ap (are_fresh (db table.tree)) same) ∙ applied.fresh,
       )
+
+  -- one row is put in
+  pub inserted : (terms : List Term) (width : ℕ) (old new : State) (text : List ℕ) (params : Row) (count : ℕ)
+      → table.is_counted ≡ false → stamped table params ≡ params → value_rows params width (length terms / width) terms ≡ eval_all terms (params ∷ []) ∷ []
+      → ((new : Row) → works schema Enforced 0 table.tree [] (new ∷ []) ≡ [])
+      → old.now.schema ≡ schema → Writes old new None (Insert at (Values terms width)) text params count
+      → Rewrites old.now new.now table.tree (put_row (with_rowid Chosen (old.now.trees table.tree) (cast_row table (eval_all terms (params ∷ [])))) (old.now.trees table.tree))
+      × (are_fresh (old.now.trees table.tree) (with_rowid Chosen (old.now.trees table.tree) (cast_row table (eval_all terms (params ∷ []))) ∷ []) ≡ true)
+  inserted terms width old new text params count uncounted timeless single idle has w =
+      inserted_all terms width (eval_all terms (params ∷ []) ∷ []) old new text params count uncounted timeless single
+      (idle (with_rowid Chosen (old.now.trees table.tree) (cast_row table (eval_all terms (params ∷ []))))) has w
 
 module _ (schema : Schema) (at : ℕ) (table : Table) (found : slice_get schema.tables at ≡ Some table) where
   -- the one row that passes is put anew

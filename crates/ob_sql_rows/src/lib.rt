@@ -1,13 +1,14 @@
 //! The tables of a book, and the statements that read and write them.
 //!
 //! Keeps the eleven tables, and one function for each statement, which runs inside the caller's
-//! transaction. Promises which row each statement adds, changes or deletes, if any, what it finds,
+//! transaction. Promises which rows each statement adds, changes or deletes, if any, what it finds,
 //! and that it fails if it breaks a rule of its table. Promises that each test of a row is true
 //! exactly for the row of the given item. To the ten tables of version 1 it adds the eleventh, of
 //! in-service intervals; their rows stay. Used by `ob_sql_write`, which writes the rows of a command
 //! in one transaction, the other storage crates, `ob_import`, `ob_http_routes` and `ob_jobs`.
 #![tactic(auto)]
 
+mod block;
 mod changes;
 mod columns;
 mod comparing;
@@ -20,6 +21,7 @@ mod run;
 mod table;
 mod version;
 
+pub use block::{MovedAmount, add_moved_block};
 pub use changes::{
     correct_entry, drop_mark, set_body, set_life, set_posting, set_service, set_version,
     withdraw_entry,

@@ -3,6 +3,7 @@
 ghost use Rattle.std.specs.Prelude.{◌≡◌, ◌≤◌, length, map};
 ghost use Rattle.std.specs.List.{AllByRecursion};
 ghost use Rattle.sqlite_value.specs.Value.{owned};
+ghost use Rattle.sqlite.specs.Values.{bound};
 ghost use Rattle.sqlite.specs.declared.types.Value.TheVariants.{Int};
 ghost use Rattle.ob_base.specs.Stop.{out_of_memory};
 ghost use Rattle.ob_sql_rows.specs.Steps.{Runs, IsStoreFault};
@@ -25,7 +26,18 @@ pub(crate) fn run<S: Alter>(
     ensures { Runs S.Store sql.now (map held fields.now) tx.old.conn tx.new.conn result }
 {
     let params = values(fields);
-    match tx.execute(sql, &params[..fields.len()]) {
+    run_values(tx, sql, &params[..fields.len()])
+}
+
+/// Runs a statement that answers no rows, with these parameters.
+pub(crate) fn run_values<S: Alter>(
+    tx: &mut Transaction<'_, S>,
+    sql: &str,
+    params: &[ValueRef<'_>],
+) -> Result<(), Stop>
+    ensures { Runs S.Store sql.now (bound params.now) tx.old.conn tx.new.conn result }
+{
+    match tx.execute(sql, params) {
         Ok(_) => Ok(()),
         Err(error) => Err(stop_of(error)),
     }

@@ -16,6 +16,7 @@ use Rattle.ob_sql_rows.proofs.Failing.{failed_after}
 use Rattle.ob_sql_rows.proofs.Silence.{silent_then}
 use Rattle.ob_sql_write.specs.Keeps.{ChangesOpen}
 use Rattle.ob_sql_write.specs.Upgrade.{LetsUpgradeIn, UpgradesOpen}
+use Rattle.ob_sql_write.proofs.Steps.{makes_then, on_ok}
 
 -- why the store fails in a transaction, where this is let in
 abbrev pub HasCauseIn : State → State → Type 0 → Stop → Type 0
@@ -59,6 +60,28 @@ lets_then a b m needs lets n l f enough one it =
 pub last_cause : {X : Type 0} {Allowed Next : Type 0} (a b c : State) (r : Result X Stop) → Silent a b → Silent b c → HasCleanDisk c → IfErr r (HasCauseIn b c Next) → LetsOn a b Allowed Next → IfErr r (HasCauseIn a c Allowed)
 last_cause a b c (Ok x) one two clean told on = tt
 last_cause a b c (Err stop) one two clean told on = λ store inside allowed. fails_on a b c _ _ one two clean on inside allowed (told store)
+
+-- steps that went, and the last one, which is let in then
+pub open_then : {S X : Type 0} (g : Ghosts S) (old mid new : MutBor (Held S)) (r : Result X Stop) (m needs lets n l : Tables → Type 0) (f h : Tables → Tables) → mid.ghost_name ≡ old.ghost_name
+    → Silent (state g old.now) (state g mid.now)
+    → (HasCleanDisk (state g mid.now) → IsTrue (state g old.now).is_open → IsTrue (state g old.now).in_transaction → Makes (state g old.now) (state g mid.now) m f)
+    → ChangesOpen g mid new r n l h → ((t : Tables) → needs t → m t × n (f t)) → ((t : Tables) → needs t → lets t → l (f t)) → ChangesOpen g old new r needs lets (λ t. h (f t))
+open_then g old mid new r m needs lets n l f h same quiet first last enough allow =
+    let a = state g old.now in
+    let b = state g mid.now in
+    let c = state g new.now in
+    record {
+      same_reference = last.same_reference ∙ same;
+      silent = silent_then a b c quiet last.silent;
+      faults = last.faults;
+      makes = λ clean. on_ok r (last.makes clean) (λ then live inside.
+          let early : HasCleanDisk b = omega (arith, last.silent.survives.clean, clean) in
+          let one = first early live inside in
+          makes_then a b c m n needs f h enough one (then one.stays one.inside));
+      cause = λ clean. last_cause a b c r quiet last.silent clean (last.cause clean) (λ early live inside allowed.
+          let one = first early live inside in
+          (one.inside, lets_then a b m needs lets n l f (λ t has it. let both = enough t has in (both.0, both.1, allow t has it)) one allowed));
+    }
 
 -- ---- a step failed, and its error was handed on
 -- a step failed of those that are let in so

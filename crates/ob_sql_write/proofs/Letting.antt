@@ -3,93 +3,31 @@ use Rattle.std.proofs.Common.{◌≡◌, ◌≢◌, ◌∙◌, ap, refl, sym, su
 use Rattle.std.specs.List.{All, AllByRecursion, AllPairs, list_any, range_with_len}
 use Rattle.std.specs.Prelude.{if◌then◌else◌}
 use Rattle.std.proofs.lemmas.Bool.{or_from, and_left, and_right, cases_eq}
-use Rattle.std.proofs.lemmas.List.{append-nil, append_assoc, get_or_append_left, get_or-append-add, get_or-take, length-append, length-map, length-take-le}
+use Rattle.std.proofs.lemmas.List.{append_assoc, get_or_append_left, get_or-append-add, get_or-take, length-append, length-map, length-take-le}
 use Rattle.std.proofs.lemmas.List.Elements.{All-append, All-from_get_or, All-map, All-tail}
 use Rattle.std.proofs.lemmas.List.Folds.{list_any-append, list_any_none}
 use Rattle.std.proofs.lemmas.List.FromFn.{get_or-map-range_with_len, get_or-range_with_len, length-map-range_with_len, length-range_with_len}
 use Rattle.std.proofs.lemmas.List.Kept.{AllPairs-cons}
 use Rattle.ob_base.specs.Life.{whole_life}
 use Rattle.ob_post.specs.Keys.{dim_number}
-use Rattle.ob_post.specs.Moved.{IsBefore}
-use Rattle.ob_post.specs.Postings.{PostedAmounts}
 use Rattle.ob_post.specs.declared.Dim.{Dim}
 use Rattle.ob_post.specs.declared.Dim.TheVariants as dim
-use Rattle.ob_post.specs.declared.Moved.{Moved}
 use Rattle.ob_post.proofs.Keying.{same_dim}
 use Rattle.ob_state.specs.declared.resolved.Resolved.{Resolved}
 use Rattle.ob_state.specs.declared.resolved.Resolved.TheVariants as resolved
-use Rattle.ob_sql_rows.specs.Rows.{Columns, HasCommand, HasPosting, Tables, is_key, is_posting, is_reference, change_where, rebody, command_row, life_row}
-use Rattle.ob_sql_rows.specs.Rules.{HasKey, HasRoom, HasShort, IsShort, IsShortValue, LetsBody, LetsCause, LetsCommand, LetsLife, LetsMeta, LetsMoved, LetsNode, LetsPosting, is_moved}
+use Rattle.ob_sql_rows.specs.Rows.{Columns, HasCommand, Tables, is_key, is_posting, is_reference, change_where, rebody, command_row, life_row}
+use Rattle.ob_sql_rows.specs.Rules.{HasKey, HasShort, IsShort, IsShortValue, LetsBody, LetsCause, LetsCommand, LetsLife, LetsMeta, LetsNode, LetsPosting}
 use Rattle.ob_sql_rows.specs.declared.table.Table.TheVariants.{Meta, Device, Life, Command, Moved as Moves, Posting}
 use Rattle.ob_sql_write.specs.Acts.{with_command}
 use Rattle.ob_sql_write.specs.Amounts.{all_keys, amount_row}
 use Rattle.ob_sql_write.specs.Changing.{rows_by}
-use Rattle.ob_sql_write.specs.Moves.{HasRows, LetsMoves, with_move, with_moves}
+use Rattle.ob_sql_write.specs.Moves.{LetsMoves}
 use Rattle.ob_sql_write.specs.NewBook.{LetsHeading, LetsZeros, keys_of, no_amount, with_zeros}
-use Rattle.ob_sql_write.specs.Stored.{row_of, rows_of}
 use Rattle.ob_sql_write.specs.Upgrade.{HasBodies, LetsBodies, LetsLivesOf, with_bodies, with_body, with_lives}
 use Rattle.ob_sql_write.specs.declared.act.Act.{Act}
 use Rattle.ob_sql_write.specs.declared.upgrade.NewBody.{NewBody}
-use Rattle.ob_sql_write.proofs.Tests.{keyed, last_passes, no_front, none_more, none_of_fewer, not_keyed, other_number, short_column}
+use Rattle.ob_sql_write.proofs.Tests.{keyed, last_passes, none_more, not_keyed, other_number, short_column}
 use Rattle.ob_sql_write.proofs.Zeros.{ranges_are_all}
-
--- ---- the amounts that a command moves
--- the rows of what was moved so far
-moved_so_far : (id : ℕ) (p : PostedAmounts) (ms : List Moved) (t : Tables) → with_moves id p ms t Moves ≡ t Moves ++ rows_of id ms
-moved_so_far id p [] t = sym (append-nil (t Moves))
-moved_so_far id p (m ∷ ms) t = moved_so_far id p ms (with_move id p m t) ∙ append_assoc (t Moves) (row_of id m ∷ []) (rows_of id ms)
-
-commands_stay : (id : ℕ) (p : PostedAmounts) (ms : List Moved) (t : Tables) → with_moves id p ms t Command ≡ t Command
-commands_stay id p [] t = refl
-commands_stay id p (m ∷ ms) t = commands_stay id p ms (with_move id p m t)
-
-as_many_amounts : (id : ℕ) (p : PostedAmounts) (ms : List Moved) (t : Tables) → length (with_moves id p ms t Posting) ≡ length (t Posting)
-as_many_amounts id p [] t = refl
-as_many_amounts id p (m ∷ ms) t = as_many_amounts id p ms (with_move id p m t) ∙ length-map (t Posting) _
-
--- the row of a move is none of a later one
-not_moved : (id : ℕ) (l m : Moved) → IsBefore l m → is_moved id (dim_number m.dim) m.key (row_of id l) ≡ false
-not_moved id l m (inl less) = and_right _ _ (and_left _ _ (other_number (dim_number l.dim) (dim_number m.dim) (λ e. omega (arith, e, less))))
-not_moved id l m (inr both) = and_right _ _ (and_right _ _ (and_left _ _ (other_number l.key m.key (λ e. omega (arith, e, both.1)))))
-
--- the next one is let in once those before it are written
-lets_move : (id : ℕ) (p : PostedAmounts) (ms : List Moved) (at : ℕ) (d : Moved) (t : Tables) → at < length ms → HasKey Command id t → LetsMoves id ms t
-    → LetsMoved id (dim_number (get_or ms at d).dim) (get_or ms at d).key (get_or ms at d).delta (with_moves id p (take at ms) t) × HasRoom Posting (with_moves id p (take at ms) t)
-lets_move id p ms at d t low has lets =
-    let m = get_or ms at d in
-    let before = take at ms in
-    let long : length before ≡ at = length-take-le at ms (omega (arith, low)) in
-    let test : Columns → Bool = is_moved id (dim_number m.dim) m.key in
-    let fresh : list_any test (t Moves) ≡ false = none_of_fewer (is_key id) test (λ r. no_front _ _) (t Moves) lets.fresh in
-    let apart : All (λ l. test (row_of id l) ≡ false) before =
-    All-from_get_or (λ l. test (row_of id l) ≡ false) before d (λ i under.
-    let first : i < at = omega (arith, under, long) in
-    not_moved id (get_or before i d) m (subst (λ (l : Moved). IsBefore l m) (sym (get_or-take at ms i d first)) (lets.in_order i at d first low))) in
-    let written : list_any test (rows_of id before) ≡ false = list_any_none test (rows_of id before) (All-map (λ r. test r ≡ false) (row_of id) before apart) in
-    let rows = moved_so_far id p before t in
-    let count : length (with_moves id p before t Moves) ≡ length (t Moves) + at = ap length rows ∙ length-append (t Moves) (rows_of id before) ∙ ap (λ n. length (t Moves) + n) (length-map before (row_of id) ∙ long) in
-    let key : HasKey Command id (with_moves id p before t) = ap (list_any (is_key id)) (commands_stay id p before t) ∙ has in
-    let free : list_any test (with_moves id p before t Moves) ≡ false = ap (list_any test) rows ∙ list_any-append test (t Moves) (rows_of id before) ∙ or_from _ _ fresh written in
-    let room : HasRoom Moves (with_moves id p before t) = omega (arith, count, low, lets.room) in
-    ((key, free, lets.moving at d low, room), omega (arith, as_many_amounts id p before t, lets.amounts))
-
--- each amount has its row while it isn't its turn yet
-first_rows : (id : ℕ) (p : PostedAmounts) (ms : List Moved) (n : ℕ) (t : Tables) → HasRows id p ms t → HasRows id p (take n ms) t
-first_rows id p ms zero t has = tt
-first_rows id p [] (suc n) t has = tt
-first_rows id p (m ∷ ms) (suc n) t has = (has.0, first_rows id p ms n (with_move id p m t) has.1)
-
-row_at : (id : ℕ) (p : PostedAmounts) (ms : List Moved) (n : ℕ) (d : Moved) (t : Tables) → n < length ms → HasRows id p ms t
-    → HasPosting (dim_number (get_or ms n d).dim) (get_or ms n d).key (with_moves id p (take n ms) t)
-row_at id p [] n d t low has = absurd (omega (arith, low))
-row_at id p (m ∷ ms) zero d t low has = has.0
-row_at id p (m ∷ ms) (suc n) d t low has = row_at id p ms n d (with_move id p m t) (omega (arith, low)) has.1
-
--- a turn of the loop over the amounts
-pub lets_turn : (id : ℕ) (p : PostedAmounts) (ms : List Moved) (at : ℕ) (d : Moved) (t : Tables) → at < length ms → HasRows id p ms t → HasKey Command id t → LetsMoves id ms t
-    → HasRows id p (take at ms) t × HasPosting (dim_number (get_or ms at d).dim) (get_or ms at d).key (with_moves id p (take at ms) t)
-    × (LetsMoved id (dim_number (get_or ms at d).dim) (get_or ms at d).key (get_or ms at d).delta (with_moves id p (take at ms) t) × HasRoom Posting (with_moves id p (take at ms) t))
-lets_turn id p ms at d t low has key lets = (first_rows id p ms at t has, row_at id p ms at d t low has, lets_move id p ms at d t low key lets)
 
 -- ---- the rows of a command
 -- the rows that it changes beside its own leave the commands and what they moved

@@ -13,5 +13,6 @@ pub mod NewBook
 pub mod Same
 pub mod Steps
 pub mod Tests
+pub mod Turns
 pub mod Upgrading
 pub mod Zeros

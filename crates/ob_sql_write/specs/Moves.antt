@@ -1,6 +1,6 @@
 -- What the amounts of a command make of the tables.
 use Rattle.std.specs.List.{list_any}
-use Rattle.std.specs.Prelude.{◌≡◌, ℕ, ◌+◌, ◌^◌, ◌<◌, length, false, ℤ, pos, ◌+ℤ◌, ◌≤ℤ◌, ◌<ℤ◌, List, [], ◌∷◌, ⊤, fold}
+use Rattle.std.specs.Prelude.{◌≡◌, ℕ, ◌+◌, ◌^◌, ◌<◌, length, false, ℤ, pos, ◌+ℤ◌, ◌≤ℤ◌, ◌<ℤ◌, List, [], ◌∷◌, ⊤, fold, map}
 use Rattle.std.specs.Int.RustNames.{unsigned_abs}
 use Rattle.ob_post.specs.Keys.{dim_number, IsKey}
 use Rattle.ob_post.specs.Postings.{PostedAmounts, amount_of, day_count}
@@ -8,6 +8,8 @@ use Rattle.ob_post.specs.Moved.{AreInOrder, HaveNoZero}
 use Rattle.ob_post.specs.declared.Moved.{Moved}
 use Rattle.ob_sql_rows.specs.Rows.{Tables, is_key, HasPosting, with_row, moved_row, with_posting}
 use Rattle.ob_sql_rows.specs.Rules.{HasRoom}
+use Rattle.ob_sql_rows.specs.Block.{with_moved_rows, LetsMovedRows}
+use Rattle.ob_sql_rows.specs.declared.block.MovedAmount.{MovedAmount}
 use Rattle.ob_sql_rows.specs.declared.table.Table.TheVariants.{Moved as Moves, Posting}
 
 -- the amount under the key of a row once the row has moved it
@@ -30,6 +32,29 @@ with_move id p m tables =
 -- one after the other
 abbrev pub with_moves : ℕ → PostedAmounts → List Moved → Tables → Tables
 with_moves id p moves t = fold (λ t m. with_move id p m t) t moves
+
+-- what the row of a move holds beside the number of the command
+abbrev pub moved_amount : Moved → MovedAmount
+moved_amount m = record { dim = dim_number m.dim; key = m.key; delta = m.delta }
+
+-- the rows of the moves alone, and whether the rules let them in
+abbrev pub with_rows : ℕ → List Moved → Tables → Tables
+with_rows id moves = with_moved_rows id (map moved_amount moves)
+
+abbrev pub LetsRows : ℕ → List Moved → Tables → Type 0
+LetsRows id moves = LetsMovedRows id (map moved_amount moves)
+
+-- the amount alone that stands after a move, and those after all
+abbrev pub with_amount_of : PostedAmounts → Moved → Tables → Tables
+with_amount_of p m = with_posting (dim_number m.dim) m.key (unsigned_abs (moved_to p m))
+
+abbrev pub with_amounts : PostedAmounts → List Moved → Tables → Tables
+with_amounts p moves t = fold (λ t m. with_amount_of p m t) t moves
+
+-- each amount has its row when its turn comes, where the amounts alone are written
+abbrev pub HasAmounts : PostedAmounts → List Moved → Tables → Type 0
+HasAmounts p [] t = ⊤
+HasAmounts p (m ∷ ms) t = HasPosting (dim_number m.dim) m.key t × HasAmounts p ms (with_amount_of p m t)
 
 -- each amount has its row when its turn comes
 abbrev pub HasRows : ℕ → PostedAmounts → List Moved → Tables → Type 0

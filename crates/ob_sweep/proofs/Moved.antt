@@ -1,5 +1,5 @@
 -- One device gets another position: the positions as of a second, and the supply of the nodes.
-use Rattle.std.proofs.Common.{◌≡◌, ℕ, suc, zero, ◌<◌, Bool, true, false, cond, List, [], ◌∷◌, refl, sym, ◌∙◌, ap, subst, length, map, slice_get, Some, inl, inr}
+use Rattle.std.proofs.Common.{◌≡◌, ℕ, suc, zero, cond, List, [], ◌∷◌, refl, sym, ◌∙◌, ap, subst, length, map, slice_get, Some}
 use Rattle.std.proofs.Math.ListN.{set}
 use Rattle.std.specs.List.{range_with_len}
 use Rattle.ob_base.specs.Life.{is_alive}

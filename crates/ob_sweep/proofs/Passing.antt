@@ -1,6 +1,6 @@
 -- The step of the loop that passes lives: which nodes are supplied at the next second at which one turns, and the runs then.
-use Rattle.std.proofs.Common.{◌≡◌, ℕ, suc, ◌+◌, ◌-◌, ◌<◌, ◌≤◌, List, [], ◌∷◌, ◌++◌, Some, None, set, true, refl, sym, ◌∙◌, ap, arith, subst, length, map, get_or, IsTrue}
-use Rattle.std.specs.List.{All, AllPairs, list_any}
+use Rattle.std.proofs.Common.{◌≡◌, ℕ, ◌+◌, ◌-◌, ◌<◌, ◌≤◌, List, [], ◌∷◌, ◌++◌, Some, None, set, true, refl, sym, ◌∙◌, ap, arith, subst, length, get_or, IsTrue}
+use Rattle.std.specs.List.{AllPairs, list_any}
 use Rattle.std.proofs.lemmas.List.Elements.{All-cons, All-head, All-push, All-tail}
 use Rattle.std.proofs.lemmas.List.{get_or-append-add, get_or_default, length-append, set-get_or}
 use Rattle.ob_base.specs.Life.{turns_at}
@@ -13,7 +13,6 @@ use Rattle.ob_net.specs.declared.net.Device.{Device}
 use Rattle.ob_sheet.specs.declared.Entry.{Entry}
 use Rattle.ob_sheet.specs.Order.{is_before}
 use Rattle.ob_sheet.specs.Positions.{entered, positions}
-use Rattle.ob_sweep.specs.declared.Run.{Run}
 use Rattle.ob_sweep.specs.Steps.{AreKeptBefore, AreKeptUntil, all_runs_until, push_all, supplied_nodes}
 use Rattle.ob_sweep.specs.Turns.{turns_between}
 use Rattle.ob_sweep.proofs.Growth.{AllBefore, by_second}

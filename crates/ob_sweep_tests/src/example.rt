@@ -4,6 +4,7 @@ ghost use Rattle.std.specs.Prelude.{◌≡◌, ◌<◌, ◌≤◌, IfOk, OnOk, l
 ghost use Rattle.std.specs.List.{All};
 ghost use Rattle.ob_sheet.specs.Sheet.{NameDevices};
 ghost use Rattle.ob_sweep.specs.Deltas.{Fits};
+ghost use Rattle.ob_sweep.specs.Timeline.{AreRuns};
 ghost use Rattle.ob_time.specs.Calendar.{first_second_of, end_second_of};
 
 use crate::ask::{change_of, obey};
@@ -188,11 +189,31 @@ fn planned<T: Timeline>(
     ensures devices { OnOk result (NameDevices (length net.new.network.devices) sheet.now.entries) }
 {
     let timeline = T::build(alloc, net, sheet, period)?;
+    let (delta, searches) = plan(net, sheet, period, &timeline, command)?;
+    Ok((timeline, delta, searches))
+}
+
+// The planned changes and their searches, on a timeline that was built before the change.
+fn plan<T: Timeline>(
+    net: &mut Net,
+    sheet: &Sheet,
+    period: &CivilDays,
+    timeline: &T,
+    command: &Command,
+) -> Result<(Delta, u128), Fail>
+    requires devices { NameDevices (length net.old.network.devices) sheet.now.entries }
+    requires all { All (λ e. (first_second_of period.now ≤ e.second)
+        × (e.second < end_second_of period.now)) sheet.now.entries }
+    requires runs { AreRuns net.old.network sheet.now.entries (first_second_of period.now)
+        (end_second_of period.now) (T.content timeline.now) }
+    ensures fits { IfOk result (λ p. Fits (T.content timeline.now) p.0) }
+    ensures devices { OnOk result (NameDevices (length net.new.network.devices) sheet.now.entries) }
+{
     let change = change_of(net, sheet, period, command)?;
     let before = net.searches();
     let delta = timeline.plan(net, sheet, period, &change)?;
     let searches = net.searches().checked_sub(before).ok_or("a count")?;
-    Ok((timeline, delta, searches))
+    Ok((delta, searches))
 }
 
 // Answers whether the outage intervals of each section equal those built from scratch.

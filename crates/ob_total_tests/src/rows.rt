@@ -23,20 +23,26 @@ fn shown(alloc: Global, text: &[u8]) -> Result<Vec<u8>, Stop> {
 // Shows a row with a field for each column by its fields, each in `<>`, an empty one as `.`; any
 // other row as `-`.
 fn show(row: &Row, out: &mut Vec<u8>) -> Result<(), Stop> {
-    let Some(fields) = row.fields() else {
-        out.push(b'-')?;
-        return Ok(());
-    };
+    match row.fields() {
+        Some(fields) => show_all(&fields, out),
+        None => Ok(out.push(b'-')?),
+    }
+}
+
+fn show_all(fields: &[&[u8]], out: &mut Vec<u8>) -> Result<(), Stop> {
     for field in fields {
-        if field.is_empty() {
-            out.push(b'.')?;
-        } else {
-            out.push(b'<')?;
-            out.extend_from_slice(field)?;
-            out.push(b'>')?;
-        }
+        show_field(field, out)?;
     }
     Ok(())
+}
+
+fn show_field(field: &[u8], out: &mut Vec<u8>) -> Result<(), Stop> {
+    if field.is_empty() {
+        return Ok(out.push(b'.')?);
+    }
+    out.push(b'<')?;
+    out.extend_from_slice(field)?;
+    Ok(out.push(b'>')?)
 }
 
 // Texts and their rows: the ends of lines and byte order marks; quotes and other bytes; rows of

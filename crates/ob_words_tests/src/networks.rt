@@ -1,10 +1,11 @@
 //! Tests of the network: its parts by name and by number, and the nodes that are supplied. Its
 //! limits are tested in `ob_total_tests`.
+ghost use Rattle.std.specs.Prelude.{◌≤◌};
 ghost use Rattle.ob_net.specs.Supplies.{IsOf};
 
 use ob_command::{Command, NewDevice, read_body};
 use ob_net::Pos::{Closed, Opened};
-use ob_net::{Name, Net, Node, Pos, Refusal, Stop, Supply, grid, walk_law};
+use ob_net::{Name, Net, Node, Pos, Refusal, Stop, Supply, apart_law, grid, walk_law};
 use std::alloc::Global;
 use std::process::Abort;
 use std::test::Fail;
@@ -27,24 +28,30 @@ device TIE S2 S3 open 0 -
 // Adds the part that a body text names; answers why it is refused, or None.
 fn add(net: &mut Net, body: &str) -> Result<Option<Refusal>, Fail> {
     let command = read_body(body.as_bytes()).ok_or("a command")?;
-    net.reserve_one()?;
-    match command {
-        Command::Bus { name } => Ok(net.add_bus(name).err()),
-        Command::Section { name, feeder } => Ok(net.add_section(name, feeder.get()).err()),
-        Command::Device(device) => {
-            let NewDevice {
-                name,
-                ends,
-                normal,
-                life,
-            } = device;
-            Ok(
-                net.add_device(name, *ends.a(), *ends.b(), normal, life.life())
-                    .err(),
-            )
-        }
+    match &command {
+        Command::Bus { name } => add_bus(net, *name),
+        Command::Section { name, feeder } => add_section(net, *name, feeder.get()),
+        Command::Device(device) => add_device(net, device),
         _ => Err("no part of a network".into()),
     }
+}
+
+fn add_bus(net: &mut Net, name: Name) -> Result<Option<Refusal>, Fail> {
+    net.reserve_one()?;
+    Ok(net.add_bus(name).err())
+}
+
+fn add_section(net: &mut Net, name: Name, feeder: u8) -> Result<Option<Refusal>, Fail>
+    requires { 1 ≤ feeder }
+{
+    net.reserve_one()?;
+    Ok(net.add_section(name, feeder).err())
+}
+
+fn add_device(net: &mut Net, device: &NewDevice) -> Result<Option<Refusal>, Fail> {
+    net.reserve_one()?;
+    let (a, b, life) = (*device.ends.a(), *device.ends.b(), device.life.life());
+    Ok(net.add_device(device.name, a, b, device.normal, life).err())
 }
 
 /// Adds the parts that body texts name, one a line; a line may end with ` => ` and the name of the
@@ -262,6 +269,49 @@ fn one_switching_after_another(rt: HostRuntime) -> Result<(), Fail> {
         switches(&rt, &mut net, &mut supply, switching);
     }
     assert!(rt; net.nodes() == 6 && net.devices() == 6 && net.searches() == 10);
+    Ok(())
+}
+
+// Positions of the devices CB-A, CB-B, D1, D2, D3 and TIE, the number of a device, which of the
+// nodes GRID, BUS-A, BUS-B, S1, S2 and S3 are near it, and which of the devices are at those nodes.
+type Near = (&'static [u8; 6], u16, &'static [u8; 6], &'static [u8; 6]);
+
+// A feeder in its normal positions, by its breaker and by one of its switches; both feeders by the
+// tie, open and closed; the sections behind an open breaker; and every device open.
+const NEAR: [Near; 6] = [
+    (b"ccccco", 2, b"-+-++-", b"+-++-+"),
+    (b"ccccco", 0, b"-+-++-", b"+-++-+"),
+    (b"ccccco", 5, b"-+++++", b"++++++"),
+    (b"cccccc", 4, b"-+++++", b"++++++"),
+    (b"ccocco", 3, b"---++-", b"--++-+"),
+    (b"oooooo", 1, b"--+---", b"-+--+-"),
+];
+
+fn finds_near(rt: &impl Abort, alloc: Global, net: &Net, line: &Near) -> Result<(), Fail> {
+    let (text, device, wanted, at) = *line;
+    let mut positions = Vec::new(alloc);
+    for byte in text {
+        positions.push(if *byte == b'c' { Closed } else { Opened })?;
+    }
+    assert!(rt; net.devices() == 6 && device < 6 && positions.len() == 6);
+    let near = net.nodes_near(device, &positions)?;
+    assert!(rt; near.len() == 6);
+    for (found, wanted) in near.iter().zip(wanted) {
+        assert!(rt; *found == (*wanted == b'+'));
+    }
+    for number in 0..6u16 {
+        assert!(rt; net.is_at(number, &near) == (at[usize::from(number)] == b'+'));
+    }
+    Ok(())
+}
+
+#[test]
+fn nodes_near_a_device(rt: HostRuntime) -> Result<(), Fail> {
+    apart_law();
+    let net = meshed(&rt, rt.alloc())?;
+    for line in &NEAR {
+        finds_near(&rt, rt.alloc(), &net, line)?;
+    }
     Ok(())
 }
 

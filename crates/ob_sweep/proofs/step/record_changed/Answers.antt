@@ -1,10 +1,9 @@
-use Rattle.std.proofs.Common.{◌≡◌, ℕ, ◌<◌, not, List, [], length, map, get_or, set, sym, ◌∙◌, ap, arith, refl}
+use Rattle.std.proofs.Common.{◌≡◌, ℕ, ◌<◌, not, List, [], length, map, get_or, sym, ◌∙◌, ap, arith}
 use Rattle.std.proofs.lemmas.List.{get_or-map, get_or_default, length-map}
 use Rattle.ob_net.specs.Reach.{is_reached}
-use Rattle.ob_sweep.specs.declared.Run.{Run}
 use Rattle.ob_sweep.specs.Steps.{push}
 use Rattle.ob_sweep.proofs.Lists.{map-set_at}
-use Rattle.ob_sweep.proofs.Recorded.{recorded_all, recorded_more, turned}
+use Rattle.ob_sweep.proofs.Recorded.{recorded_all, recorded_more}
 use Rattle.ob_sweep.proofs.step.record_changed.Goals as goal
 
 pub loop-node-preserved : goal.loop-node-preserved

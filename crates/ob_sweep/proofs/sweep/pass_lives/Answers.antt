@@ -1,9 +1,9 @@
-use Rattle.std.proofs.Common.{◌≡◌, ◌≤◌, ◌<◌, ◌+◌, ◌∙◌, List, None, IsTrue, length, map, sym, ap, subst, arith}
+use Rattle.std.proofs.Common.{◌≤◌, ◌<◌, ◌∙◌, None, IsTrue, length, map, sym, ap, arith}
 use Rattle.std.specs.List.{list_any}
 use Rattle.ob_base.specs.Life.{turns_at}
 use Rattle.ob_net.specs.Network.{Network, as_of}
 use Rattle.ob_net.specs.declared.net.Device.{Device}
-use Rattle.ob_sweep.specs.Steps.{IsSupplyAt, all_runs_until, push_all, supplied_nodes}
+use Rattle.ob_sweep.specs.Steps.{IsSupplyAt, push_all, supplied_nodes}
 use Rattle.ob_sweep.proofs.Passing.{NoneTurns, counts_on, counts_within, kept_until, passed, waited}
 use Rattle.ob_sweep.proofs.Sweeps.{length-supplied}
 use Rattle.ob_sweep.proofs.sweep.pass_lives.Goals as goal

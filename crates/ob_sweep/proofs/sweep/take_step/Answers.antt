@@ -1,4 +1,4 @@
-use Rattle.std.proofs.Common.{◌≡◌, ℕ, ◌<◌, ◌≤◌, subst, ◌∙◌, List, Some, length, map, set, sym, ap, arith}
+use Rattle.std.proofs.Common.{◌≡◌, ℕ, ◌<◌, subst, ◌∙◌, Some, length, map, set, sym, ap, arith}
 use Rattle.ob_net.specs.Network.{Network, as_of}
 use Rattle.ob_sweep.specs.Steps.{IsSupplyAt, all_runs_until, push_all, supplied_nodes}
 use Rattle.std.specs.List.{All}

@@ -4,6 +4,3 @@ use Rattle.ob_sweep_tests.proofs.example.planned.Goals as goal
 
 pub build-requires-clause-between : goal.build-requires-clause-between
 build-requires-clause-between g c = lie (first_second_of c.args.period.now) (end_second_of c.args.period.now) c.args.sheet.now.entries c.requires.all
-
-pub plan-requires-clause-between : goal.plan-requires-clause-between
-plan-requires-clause-between g c = lie (first_second_of c.args.period.now) (end_second_of c.args.period.now) c.args.sheet.now.entries c.requires.all

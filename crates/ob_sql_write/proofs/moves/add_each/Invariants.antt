@@ -1,0 +1,15 @@
+use Rattle.std.proofs.Common.{◌≡◌, take, IsTrue}
+use Rattle.sqlite.specs.State.{HasCleanDisk}
+use Rattle.sqlite.specs.Held.{state}
+use Rattle.ob_sql_rows.specs.Rows.{Always}
+use Rattle.ob_sql_rows.specs.Steps.{Silent, Makes}
+use Rattle.ob_sql_write.specs.Moves.{with_rows}
+use Rattle.ob_sql_write.proofs.moves.add_each.Given as goal
+
+-- the rows so far are added, and nothing is committed
+abbrev pub invariant-moves : goal.invariant-moves
+invariant-moves g l =
+    let old = state g.S.Store l.fn.tx.conn.now in
+    let now = state g.S.Store l.tx.conn.now in
+    (l.tx.conn.ghost_name ≡ l.fn.tx.conn.ghost_name) × Silent old now
+    × (HasCleanDisk now → IsTrue old.is_open → IsTrue old.in_transaction → Makes old now Always (with_rows l.no (take l.at l.moves)))
