@@ -1,0 +1,50 @@
+-- How far the new runs of a section are found, and what it goes by from there on: the old history of a section, or no supply.
+use Rattle.std.specs.Prelude.{◌≡◌, ℕ, suc, ◌<◌, ◌≤◌, ◌==◌, nat_lt, Bool, true, false, List, [], ◌∷◌, Option, Some, None, map, if◌then◌else◌}
+use Rattle.ob_base.specs.declared.Pos.{Pos}
+use Rattle.ob_sweep.specs.Differences.{AllDuring, IsIndifferent, SaySame, Supplies}
+use Rattle.ob_sweep.specs.Moments.{Moment, at_end, section_history}
+use Rattle.ob_sweep.specs.Runs.{History, runs_between}
+use Rattle.ob_sweep.specs.Splice.{back, front}
+use Rattle.ob_sweep.specs.Timeline.{runs_at}
+use Rattle.ob_sweep.specs.declared.Run.{Run}
+
+-- no supply at any second, and no entry that cuts off
+abbrev pub without_supply : History
+without_supply = record { deenergized = λ s. true; cutter = λ s. None }
+
+-- what a section goes by
+abbrev pub goes_by : (ℕ → History) → Option ℕ → History
+goes_by old None = without_supply
+goes_by old (Some w) = old w
+
+-- its runs then, from a up to b, out of the old runs of all sections
+abbrev pub part_of : List (List Run) → Option ℕ → ℕ → ℕ → ℕ → List Run
+part_of lists None v a b = if nat_lt a b then record { section = v; since = a; until = b; cutter = None } ∷ [] else []
+part_of lists (Some w) v a b = map {A = Run} (λ r. record r { section = v }) (back a (front b (runs_at lists w)))
+
+-- the history with another cutter at one second
+abbrev pub recut : ℕ → Option ℕ → History → History
+recut a c h = record h { cutter = λ s. if s == a then c else h.cutter s }
+
+-- the runs from a up to b, where those before a begin at lo. Where the section is without supply just before a, a run that begins at a
+-- may have any cutter: joined to those before a it goes on from there.
+pub record AreRunsFrom (v : ℕ) (h : History) (lo a b : ℕ) (runs : List Run) : Type 0 where
+  pub cutter : Option ℕ
+  pub are : runs ≡ runs_between v (recut a cutter h) a b
+  pub due : ((s : ℕ) → lo ≤ s → suc s ≡ a → h.deenergized s ≡ false) → cutter ≡ h.cutter a
+
+-- the new runs of a section from the first second of a window are found as far as they are reached, and from there up to t it goes by
+-- the source
+pub record IsTracked (old new : ℕ → History) (lo first t v : ℕ) (runs : List Run) (reached : ℕ) (source : Option ℕ) : Type 0 where
+  pub from : first ≤ reached
+  pub upto : reached ≤ t
+  pub found : AreRunsFrom v (new v) lo first reached runs
+  pub before : (s : ℕ) → lo ≤ s → suc s ≡ reached → (new v).deenergized s ≡ (goes_by old source).deenergized s
+  pub rest : (s : ℕ) → reached ≤ s → s < t → SaySame (new v) (goes_by old source) s
+
+-- one second of the old and the new histories, where the new positions are those of the moment: a section to which the device makes no
+-- difference at any of them has its old history there, and one to which it makes none at the last of them has the old supply then
+pub record IsSecond (lit : Supplies) (device : ℕ) (old new : ℕ → History) (s : ℕ) (m : Moment) : Type 0 where
+  pub is : (v : ℕ) → SaySame (new v) (section_history (lit v) (λ t. m)) s
+  pub same : (v : ℕ) → AllDuring (IsIndifferent lit device v) m → SaySame (new v) (old v) s
+  pub end : (v : ℕ) → IsIndifferent lit device v (at_end m) → (new v).deenergized s ≡ (old v).deenergized s
