@@ -91,7 +91,7 @@ never_cut : (ps : List Pos) (xs : List Step) → last_cut (λ _. false) ps xs �
 never_cut ps [] = refl
 never_cut ps (x ∷ xs) = ap (λ o. option_or o None) (never_cut x.after xs)
 
-each_of : (P Q : List Pos → Type 0) (ps : List Pos) (xs : List Step) → ((qs : List Pos) → P qs → Q qs) → AtEach P ps xs → AtEach Q ps xs
+pub each_of : (P Q : List Pos → Type 0) (ps : List Pos) (xs : List Step) → ((qs : List Pos) → P qs → Q qs) → AtEach P ps xs → AtEach Q ps xs
 each_of P Q ps [] f h = f ps h
 each_of P Q ps (x ∷ xs) f h = (f ps h.0, each_of P Q x.after xs f h.1)
 

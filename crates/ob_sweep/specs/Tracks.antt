@@ -1,6 +1,7 @@
 -- How far the new runs of a section are found, and what it goes by from there on: the old history of a section, or no supply.
 use Rattle.std.specs.Prelude.{◌≡◌, ℕ, suc, ◌<◌, ◌≤◌, ◌==◌, nat_lt, Bool, true, false, List, [], ◌∷◌, Option, Some, None, map, if◌then◌else◌}
 use Rattle.ob_base.specs.declared.Pos.{Pos}
+use Rattle.ob_net.specs.Walk.{is_closed}
 use Rattle.ob_sweep.specs.Differences.{AllDuring, IsIndifferent, SaySame, Supplies}
 use Rattle.ob_sweep.specs.Moments.{Moment, at_end, section_history}
 use Rattle.ob_sweep.specs.Runs.{History, runs_between}
@@ -16,6 +17,10 @@ without_supply = record { deenergized = λ s. true; cutter = λ s. None }
 abbrev pub goes_by : (ℕ → History) → Option ℕ → History
 goes_by old None = without_supply
 goes_by old (Some w) = old w
+
+-- where the sections of a set are supplied through a device alone, which has this position and this other end: what a section goes by
+abbrev pub goes_through : (ℕ → Bool) → ℕ → Pos → ℕ → Option ℕ
+goes_through has other pos v = if has v then (if is_closed pos then Some other else None) else Some v
 
 -- its runs then, from a up to b, out of the old runs of all sections
 abbrev pub part_of : List (List Run) → Option ℕ → ℕ → ℕ → ℕ → List Run
