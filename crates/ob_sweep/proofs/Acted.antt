@@ -22,9 +22,11 @@ use Rattle.ob_sweep.specs.Cutters.{cutter_at}
 use Rattle.ob_sweep.specs.Differences.{SaySame}
 use Rattle.ob_sweep.specs.Moments.{Moment, Step, after_all, at_end, last_cut, section_history}
 use Rattle.ob_sweep.specs.Runs.{History, history}
+use Rattle.ob_sweep.proofs.Framed.{all_earlier, follow, in_order_left, in_order_right}
 use Rattle.ob_sweep.proofs.Growth.{AllBefore, adds, by_second}
 use Rattle.ob_sweep.proofs.Law.{Follow, later_ignored, upto_whole}
 use Rattle.ob_sweep.proofs.Moved.{moved_as_of}
+use Rattle.ob_sweep.proofs.Parted.{each_as, each_both, each_filter, each_join, each_left}
 use Rattle.ob_sweep.proofs.Sweeps.{AllEarlier, entered_more, no_cuts}
 
 -- the steps end where the entries do
@@ -173,3 +175,107 @@ split_at s (e ∷ es) h =
                 ∙ cond-true (nat_lt s e.second) (e ∷ later_ones s es) (later_ones s es) (lt-ltb s e.second past))
           ]
     ]
+
+pub each_passes : (P : Entry → Type 0) (p : Entry → Bool) (es : List Entry) → ((f : Entry) → p f ≡ true → P f) → AllByRecursion P (filter p es)
+each_passes P p [] by = tt
+each_passes P p (e ∷ es) by =
+    elim (cases_Bool (p e)) as (λ _. AllByRecursion P (filter p (e ∷ es))) [
+      | inl t ↦ subst (AllByRecursion P) (sym (cond-true (p e) (e ∷ filter p es) (filter p es) t)) (by e t, each_passes P p es by)
+      | inr n ↦ subst (AllByRecursion P) (sym (cond-false (p e) (e ∷ filter p es) (filter p es) n)) (each_passes P p es by)
+    ]
+
+-- entries about a window, from the second a up to z: those before it, those in it and those after it, each kept, in order and of a device
+pub record AreAbout (net : Network) (a z : ℕ) (front steps rest : List Entry) : Type 0 where
+  pub kept : AllByRecursion (λ f. f.kept ≡ true) ((front ++ steps) ++ rest)
+  pub rise : IsInOrder ((front ++ steps) ++ rest)
+  pub earlier : AllByRecursion (λ f. f.second < a) front
+  pub inside : AllByRecursion (λ f. (a ≤ f.second) × (f.second ≤ z)) steps
+  pub later : AllByRecursion (λ f. z < f.second) rest
+  pub named : AllByRecursion (λ f. f.device < length net.devices) steps
+
+module _ (net : Network) (t a z : ℕ) (front steps rest : List Entry) (about : AreAbout net a z front steps rest) where
+  pub end_by : (lo : ℕ) (x group : List Entry) → Follow lo x group → AllByRecursion (λ f. f.device < length net.devices) group
+      → as_of net.devices t (entered net (x ++ group)) ≡ moved_all net t (as_of net.devices t (entered net x)) group
+  end_by lo x [] f all = ap (λ q. as_of net.devices t (entered net q)) (append-nil x)
+  end_by lo x (e ∷ es) f all =
+      ap (λ q. as_of net.devices t (entered net q)) (sym (append_assoc x (e ∷ []) es))
+      ∙ end_by lo (x ++ e ∷ []) es f.3 all.1
+      ∙ ap (λ (ps : List Pos). moved_all net t ps es) (moved_once net t x e f.1 all.0)
+
+  module _ (v s : ℕ) (from : a ≤ s) (upto : s ≤ z) (lives : (ps : List Pos) → as_of net.devices s ps ≡ as_of net.devices t ps) where
+    abbrev before : List Entry
+    before = front ++ earlier_ones s steps
+
+    abbrev own : List Entry
+    own = its_own s steps
+
+    abbrev behind : List Entry
+    behind = later_ones s steps ++ rest
+
+    in_order_steps : IsInOrder steps
+    in_order_steps = in_order_right front steps (in_order_left (front ++ steps) rest about.rise)
+
+    parts : (front ++ steps) ++ rest ≡ (before ++ own) ++ behind
+    parts =
+        ap (λ q. (front ++ q) ++ rest) (split_at s steps in_order_steps)
+        ∙ append_assoc front (earlier_ones s steps ++ (own ++ later_ones s steps)) rest
+        ∙ ap (λ q. front ++ q) (append_assoc (earlier_ones s steps) (own ++ later_ones s steps) rest)
+        ∙ sym (append_assoc front (earlier_ones s steps) ((own ++ later_ones s steps) ++ rest))
+        ∙ ap (λ q. before ++ q) (append_assoc own (later_ones s steps) rest)
+        ∙ sym (append_assoc before own behind)
+
+    kept_parts : AllByRecursion (λ f. f.kept ≡ true) ((before ++ own) ++ behind)
+    kept_parts = subst (AllByRecursion (λ f. f.kept ≡ true)) parts about.kept
+
+    rise_parts : IsInOrder ((before ++ own) ++ behind)
+    rise_parts = subst IsInOrder parts about.rise
+
+    before_earlier : AllByRecursion (λ f. f.second < s) before
+    before_earlier =
+        each_join (λ f. f.second < s) front (earlier_ones s steps)
+        (each_as (λ f. f.second < a) (λ f. f.second < s) front (λ f l. omega (arith, l)) about.earlier)
+        (each_passes (λ f. f.second < s) (λ f. nat_lt f.second s) steps (λ f p. ltb-true f.second s p))
+
+    own_at : AllByRecursion (λ f. f.second ≡ s) own
+    own_at = each_passes (λ f. f.second ≡ s) (λ f. f.second == s) steps (λ f p. eqb-true f.second s p)
+
+    own_named : AllByRecursion (λ f. f.device < length net.devices) own
+    own_named = each_filter (λ f. f.device < length net.devices) (λ f. f.second == s) steps about.named
+
+    before_follows : Follow a front (earlier_ones s steps)
+    before_follows =
+        follow a front (earlier_ones s steps) (own ++ behind)
+        (subst (AllByRecursion (λ f. f.kept ≡ true)) (append_assoc before own behind) kept_parts)
+        (subst IsInOrder (append_assoc before own behind) rise_parts)
+        (each_filter (λ f. a ≤ f.second) (λ f. nat_lt f.second s) steps
+        (each_as (λ f. (a ≤ f.second) × (f.second ≤ z)) (λ f. a ≤ f.second) steps (λ f h. h.0) about.inside))
+
+    own_follows : Follow s before own
+    own_follows = follow s before own behind kept_parts rise_parts (each_as (λ f. f.second ≡ s) (λ f. s ≤ f.second) own (λ f e. omega (arith, e)) own_at)
+
+    behind_follows : Follow (suc s) (before ++ own) behind
+    behind_follows =
+        follow (suc s) (before ++ own) behind []
+        (subst (AllByRecursion (λ f. f.kept ≡ true)) (sym (append-nil ((before ++ own) ++ behind))) kept_parts)
+        (subst IsInOrder (sym (append-nil ((before ++ own) ++ behind))) rise_parts)
+        (each_join (λ f. suc s ≤ f.second) (later_ones s steps) rest
+        (each_passes (λ f. suc s ≤ f.second) (λ f. nat_lt s f.second) steps (λ f p. ltb-true s f.second p))
+        (each_as (λ f. z < f.second) (λ f. suc s ≤ f.second) rest (λ f l. omega (arith, l)) about.later))
+
+    -- the history at a second of the window is that of its moment
+    pub history_of_moment : SaySame (history net ((front ++ steps) ++ rest) v) (section_history (λ ps. is_supplied net ps v) (λ _. moment_at net t (as_of net.devices t (entered net front)) steps s)) s
+    history_of_moment =
+        let kept_through : AllByRecursion (λ f. f.kept ≡ true) (before ++ own) = each_left (λ f. f.kept ≡ true) (before ++ own) behind kept_parts in
+        let found = history_at net t v s lives before own behind
+        (all_earlier s before (each_left (λ f. f.kept ≡ true) before own kept_through) before_earlier)
+        (all_earlier (suc s) (before ++ own) kept_through
+        (each_join (λ f. f.second < suc s) before own
+        (each_as (λ f. f.second < s) (λ f. f.second < suc s) before (λ f l. omega (arith, l)) before_earlier)
+        (each_as (λ f. f.second ≡ s) (λ f. f.second < suc s) own (λ f e. omega (arith, e)) own_at)))
+        own_follows behind_follows
+        (each_both (λ f. f.second ≡ s) (λ f. f.device < length net.devices) own own_at own_named) in
+        let lit : List Pos → Bool = λ ps. is_supplied net ps v in
+        let first : as_of net.devices t (entered net before) ≡ moved_all net t (as_of net.devices t (entered net front)) (earlier_ones s steps) =
+        end_by a front (earlier_ones s steps) before_follows (each_filter (λ f. f.device < length net.devices) (λ f. nat_lt f.second s) steps about.named) in
+        subst (λ (es : List Entry). SaySame (history net es v) (section_history lit (λ _. moment_at net t (as_of net.devices t (entered net front)) steps s)) s) (sym parts)
+        (subst (λ (ps : List Pos). SaySame (history net ((before ++ own) ++ behind) v) (section_history lit (λ _. moment_of net t ps own)) s) first found)
