@@ -37,10 +37,10 @@ module _ (lit : Supplies) (d : ℕ) where
         | inr e ↦ ap (lit v) (as_is ps d Closed e) ∙ sym h
       ]
 
-  still_indifferent : (v : ℕ) (ps qs : List Pos) → AreSameBut d ps qs → IsIndifferent lit d v ps → IsIndifferent lit d v qs
+  pub still_indifferent : (v : ℕ) (ps qs : List Pos) → AreSameBut d ps qs → IsIndifferent lit d v ps → IsIndifferent lit d v qs
   still_indifferent v ps qs same h = sym (ap (lit v) (same_with d ps qs Opened same)) ∙ h ∙ ap (lit v) (same_with d ps qs Closed same)
 
-  indifferent : (v : ℕ) (ps qs : List Pos) → IsIndifferent lit d v ps → AreSameBut d ps qs → lit v qs ≡ lit v ps
+  pub indifferent : (v : ℕ) (ps qs : List Pos) → IsIndifferent lit d v ps → AreSameBut d ps qs → lit v qs ≡ lit v ps
   indifferent v ps qs h same =
       may_open v qs (still_indifferent v ps qs same h) ∙ sym (ap (lit v) (same_with d ps qs Opened same)) ∙ sym (may_open v ps h)
 

@@ -22,7 +22,7 @@ pub say_same_back : (f g : History) (s : ℕ) → SaySame f g s → SaySame g f 
 say_same_back f g s a = record { deenergized = sym a.deenergized; cutter = sym a.cutter }
 
 -- what each step leaves is left at the end
-at_last : (P : List Pos → Type 0) (ps : List Pos) (xs : List Step) → AtEach P ps xs → P (after_all ps xs)
+pub at_last : (P : List Pos → Type 0) (ps : List Pos) (xs : List Step) → AtEach P ps xs → P (after_all ps xs)
 at_last P ps [] h = h
 at_last P ps (x ∷ xs) h = at_last P x.after xs h.1
 
