@@ -89,9 +89,9 @@ both_ends nodes ends v is here there =
     elim (eqb_tells ends.0 v) [
       | inl a ↦ (ap (is_among nodes) a.1 ∙ here, ap (is_among nodes) (sym (cond-true (eqb ends.0 v) ends.1 ends.0 a.0)) ∙ there)
       | inr a ↦ (
-          ap (is_among nodes) (sym (cond-false (eqb ends.0 v) ends.1 ends.0 a.0)) ∙ there,
-          ap (is_among nodes) (eqb-true ends.1 v (sym (ap (λ x. x || eqb ends.1 v) a.0) ∙ is)) ∙ here,
-        )
+        ap (is_among nodes) (sym (cond-false (eqb ends.0 v) ends.1 ends.0 a.0)) ∙ there,
+        ap (is_among nodes) (eqb-true ends.1 v (sym (ap (λ x. x || eqb ends.1 v) a.0) ∙ is)) ∙ here,
+      )
     ]
 
 -- what is the same between more nodes is so between fewer
@@ -142,8 +142,8 @@ found_closed ends positions node old k now closed h =
     found_more ends positions node old k now (with_one now w) h (longer_one now w) (λ c. one_among now w)
     (λ test v alike e a. one_same test v now w (other_same test (ends_at ends k) node is (alike k below closed) ∙ e) a)
     (λ test v alike there e a.
-        let both = both_ends (with_one now w) (ends_at ends k) node is (longer_among now (with_one now w) node (longer_one now w) there) (one_among now w) in
-        one_same test v now w (other_same test (ends_at ends k) node is (alike k below closed both.0 both.1) ∙ e) a)
+    let both = both_ends (with_one now w) (ends_at ends k) node is (longer_among now (with_one now w) node (longer_one now w) there) (one_among now w) in
+    one_same test v now w (other_same test (ends_at ends k) node is (alike k below closed both.0 both.1) ∙ e) a)
 
 pub found_open : (ends : List (ℕ × ℕ)) (positions : List Pos) (node : ℕ) (old : List ℕ) (k : ℕ) (now : List ℕ) → (IsClosedAt positions k → ⊥) → AreFound ends positions node old (k + 1) now → AreFound ends positions node old (last_at ends node k) now
 found_open ends positions node old k now opened h =

@@ -1,10 +1,11 @@
 -- What a device cuts off, and when it cuts nothing off.
 --     cut_off_supply, joined_supply      which nodes are supplied where the device is open, and where it is closed
 --     stays_cut_off, stays_joined        for which other positions the same holds
-use Rattle.std.proofs.Common.{◌≡◌, ◌≢◌, ◌<◌, ◌&&◌, ◌||◌, ℕ, zero, suc, Bool, true, false, cond, List, [], ◌∷◌, length, get_or, set, refl, sym, ap, subst, ◌∙◌, inl, inr, arith, true≢false, get_or-set_other}
+--     cut_off_found, joined_found        what a search by the numbers of the devices' ends found
+use Rattle.std.proofs.Common.{◌≡◌, ◌≢◌, ◌<◌, ◌&&◌, ◌||◌, ◌⊎◌, ℕ, zero, suc, Bool, true, false, cond, List, [], ◌∷◌, length, get_or, set, refl, sym, ap, subst, ◌∙◌, inl, inr, arith, true≢false, get_or-set_other}
 use Rattle.std.specs.List.{AllByRecursion, filter}
 use Rattle.std.proofs.lemmas.Bool.{cases_Bool, cases_eq, cases_lt, cond-true, cond-false}
-use Rattle.std.proofs.lemmas.List.{get_or_default, get_or_past}
+use Rattle.std.proofs.lemmas.List.{get_or-map, get_or_default, get_or_past, length-map}
 use Rattle.std.proofs.lemmas.List.Elements.{All-filter, All-from_recursion, recursion_from_All}
 use Rattle.ob_base.specs.declared.Pos.{Pos}
 use Rattle.ob_base.specs.declared.Pos.TheVariants.{Opened, Closed}
@@ -12,12 +13,16 @@ use Rattle.ob_net.specs.Apart.{device_at, is_at, no_device}
 use Rattle.ob_net.specs.CutOff.{AreAlikeAt, AreClosedWithin, IsCutOff, IsJoined, IsSuppliedThrough, is_within, other_closed, other_closed_within}
 use Rattle.ob_net.specs.declared.TheConstants.{GRID}
 use Rattle.ob_net.specs.declared.net.Device.{Device}
-use Rattle.ob_net.specs.Joints.{IsClosedAt}
+use Rattle.ob_net.specs.Joints.{IsAlikeWithin, IsClosedAt, ends_at, ends_of}
 use Rattle.ob_net.specs.Network.{Network}
+use Rattle.ob_net.specs.Nodes.{is_among}
+use Rattle.ob_net.specs.Traces.{AreConnectedWithin, IsPartWithout}
 use Rattle.ob_net.specs.Walk.{closed_among, has_ends, is_connected, is_supplied}
+use Rattle.ob_net.proofs.Chains.{device_pair}
 use Rattle.ob_net.proofs.Connected.{connected_same, connected_to, ends_decided}
 use Rattle.ob_net.proofs.Forests.{closed_each, each_closed}
 use Rattle.ob_net.proofs.Searched.{node_alike}
+use Rattle.ob_net.proofs.Supplied.{connected_at}
 use Rattle.ob_net.proofs.Switched.{closed_here}
 
 -- it holds of each closed device
@@ -282,6 +287,17 @@ unfiltered p Q (x ∷ xs) h =
           ((λ t. absurd (true≢false (sym t ∙ f))), unfiltered p Q xs k)
     ]
 
+-- a device between nodes of the set has ends that are connected alike
+abbrev Within : (ℕ → Bool) → (ℕ → Bool) → Device → Type 0
+Within has test e = is_within has e ≡ true → SameAtEnds test e
+
+within_same : (net : Network) (ps : List Pos) (d : ℕ) (has : ℕ → Bool) (w : ℕ)
+    → EachClosed (Within has (λ v. is_connected (other_closed_within net ps d has) v w)) net.devices (set ps d Opened)
+within_same net ps d has w =
+    let now : List Device = other_closed_within net ps d has in
+    let test : ℕ → Bool = λ v. is_connected now v w in
+    by_number (Within has test) net.devices (set ps d Opened) (unfiltered (is_within has) (SameAtEnds test) (other_closed net ps d) (same_from now w))
+
 pub stays_joined : (net : Network) (ps qs : List Pos) (device : ℕ) (has : ℕ → Bool) → AreClosedWithin has device net.devices ps qs
     → IsJoined net ps device has → IsJoined net qs device has
 stays_joined net ps qs d has still joined =
@@ -289,12 +305,51 @@ stays_joined net ps qs d has still joined =
     let b = (device_at net.devices d).b in
     let now : List Device = other_closed_within net qs d has in
     let test : ℕ → Bool = λ w. is_connected now w b in
-    let Within : Device → Type 0 = λ e. is_within has e ≡ true → SameAtEnds test e in
-    let there : EachClosed Within net.devices (set qs d Opened) =
-    by_number Within net.devices (set qs d Opened) (unfiltered (is_within has) (SameAtEnds test) (other_closed net qs d) (same_from now b)) in
-    let here : EachClosed Within net.devices (set ps d Opened) = λ k l c is.
+    let here : EachClosed (Within has test) net.devices (set ps d Opened) = λ k l c is.
     let ne = not_opened ps d k c in
-    there k l (at_position qs d k Opened ne (still k l ne is (of_position ps d k Opened ne c))) is in
+    within_same net qs d has b k l (at_position qs d k Opened ne (still k l ne is (of_position ps d k Opened ne c))) is in
     same_by test (other_closed_within net ps d has) a b
-    (filtered (is_within has) (SameAtEnds test) (other_closed net ps d) (over_list Within net.devices (set ps d Opened) here)) joined
+    (filtered (is_within has) (SameAtEnds test) (other_closed net ps d) (over_list (Within has test) net.devices (set ps d Opened) here)) joined
     ∙ connected_to now b b refl
+
+-- what a search by the numbers of the devices' ends found
+ends_of_device : (ds : List Device) (k : ℕ) → k < length ds → ends_at (ends_of ds) k ≡ device_pair (device_at ds k)
+ends_of_device ds k l = get_or-map device_pair ds k no_device (0, 0) l
+
+pub cut_off_found : (net : Network) (ps : List Pos) (d x y : ℕ) (nodes : List ℕ) → d < length net.devices
+    → (ends_at (ends_of net.devices) d ≡ (y, x)) ⊎ (ends_at (ends_of net.devices) d ≡ (x, y))
+    → IsPartWithout (ends_of net.devices) (set ps d Opened) x y nodes → IsCutOff net ps d x y (is_among nodes)
+cut_off_found net ps d x y nodes l which h = record {
+  ends =
+      let e = device_at net.devices d in
+      let is = ends_of_device net.devices d l in
+      (ends_decided x y e).1 (elim which as (λ _. ((e.a ≡ x) × (e.b ≡ y)) ⊎ ((e.a ≡ y) × (e.b ≡ x))) [
+        | inl w ↦ inr (ap (λ (p : ℕ × ℕ). p.0) (sym is ∙ w), ap (λ (p : ℕ × ℕ). p.1) (sym is ∙ w))
+        | inr w ↦ inl (ap (λ (p : ℕ × ℕ). p.0) (sym is ∙ w), ap (λ (p : ℕ × ℕ). p.1) (sym is ∙ w))
+      ]);
+  each = λ v. connected_at net.devices (set ps d Opened) y (is_among nodes) v h.part;
+  grid = h.grid;
+  other = h.other;
+}
+
+pub joined_found : (net : Network) (ps : List Pos) (d : ℕ) (nodes : List ℕ) → d < length net.devices
+    → AreConnectedWithin (ends_of net.devices) (set ps d Opened) (ends_at (ends_of net.devices) d).0 (ends_at (ends_of net.devices) d).1 nodes
+    → IsJoined net ps d (is_among nodes)
+joined_found net ps d nodes l h =
+    let has : ℕ → Bool = is_among nodes in
+    let a = (device_at net.devices d).a in
+    let b = (device_at net.devices d).b in
+    let now : List Device = other_closed_within net ps d has in
+    let test : ℕ → Bool = λ v. is_connected now v b in
+    let alike : IsAlikeWithin has test (ends_of net.devices) (set ps d Opened) = λ k m c one other.
+    let long = length-map {B = ℕ × ℕ} net.devices device_pair in
+    let n : k < length net.devices = omega (arith, m, long) in
+    let is = ends_of_device net.devices k n in
+    let both : is_within has (device_at net.devices k) ≡ true =
+    both_true (has (device_at net.devices k).a) (has (device_at net.devices k).b) (ap (λ (p : ℕ × ℕ). has p.0) (sym is) ∙ one) (ap (λ (p : ℕ × ℕ). has p.1) (sym is) ∙ other) in
+    subst (λ (p : ℕ × ℕ). test p.0 ≡ test p.1) (sym is) (within_same net ps d has b k n c both) in
+    subst (λ (p : ℕ × ℕ). test p.0 ≡ test p.1) (ends_of_device net.devices d l) (h test alike) ∙ connected_to now b b refl
+  where
+    both_true : (x y : Bool) → x ≡ true → y ≡ true → (x && y) ≡ true
+    both_true true y s t = t
+    both_true false y s t = absurd (true≢false (sym s))

@@ -107,5 +107,5 @@ pub told_all : (test : ℕ → Bool) (nodes : List ℕ) (told : List Bool) → l
 told_all test nodes told long h =
     same_lists told (map test nodes) (long ∙ sym (length-map nodes test))
     (λ k d l.
-        let m : k < length nodes = omega (arith, l, long) in
-        get_or_default told k d false l ∙ h k m ∙ sym (get_or-map test nodes k 0 d m))
+    let m : k < length nodes = omega (arith, l, long) in
+    get_or_default told k d false l ∙ h k m ∙ sym (get_or-map test nodes k 0 d m))

@@ -108,6 +108,8 @@ impl Tracer {
             ⊎ (ends_at self.old.ends device ≡ (cut.other, cut.end))) }
         ensures cut { IfSome result (λ cut. IsPartWithout self.old.ends
             (set positions.old device Opened) cut.other cut.end self.new.found) }
+        ensures are_nodes { IfSome result (λ cut. (cut.end < self.old.nodes)
+            × (cut.other < self.old.nodes)) }
         ensures joined { result ≡ None → AreConnectedWithin self.old.ends
             (set positions.old device Opened) (ends_at self.old.ends device).0
             (ends_at self.old.ends device).1 self.new.found }
@@ -129,12 +131,7 @@ impl Tracer {
     }
 
     /// Tells of each of some nodes whether it is supplied.
-    pub(crate) fn supplied_among(
-        &mut self,
-        positions: &[Pos],
-        nodes: &[u16],
-        supplied: &mut [bool],
-    )
+    pub(crate) fn supplied_among(&mut self, positions: &[Pos], nodes: &[u16], supplied: &mut [bool])
         requires positions { length positions.now ≡ length self.old.ends }
         requires nodes { All (λ v. v < self.old.nodes) nodes.now }
         requires each { length supplied.old ≡ length nodes.now }
@@ -178,6 +175,8 @@ fn look(
         ⊎ (ends_at joints.now.ends device ≡ (cut.other, cut.end))) }
     ensures cut { IfSome result (λ cut. IsPartWithout joints.now.ends positions.now cut.other
         cut.end found.new.nodes) }
+    ensures are_nodes { IfSome result (λ cut. (cut.end < joints.now.nodes)
+        × (cut.other < joints.now.nodes)) }
     ensures joined { result ≡ None → AreConnectedWithin joints.now.ends positions.now
         (ends_at joints.now.ends device).0 (ends_at joints.now.ends device).1 found.new.nodes }
 {

@@ -12,8 +12,7 @@ returns-then-is_supplied-clause-told c = λ test supplied told.
     let found : List ℕ = c.finish.new.found.nodes in
     let start = alone_explored ends ps node _ _ c.insert.ensures.nodes c.clear.ensures.nodes in
     let same = c.finish.ensures.same node start test supplied.alike in
-    let is = with_grid ends ps node found test supplied same (sym c.has-is_supplied.ensures ∙ c.if-is_supplied.true) in
-    (
+    let is = with_grid ends ps node found test supplied same (sym c.has-is_supplied.ensures ∙ c.if-is_supplied.true) in (
       c.if-is_supplied.true ∙ sym is,
       more_live ends ps node found test supplied same c.args.live.now.nodes c.args.dead.now.nodes c.insert_all.new.self.nodes is (rw c.nodes.ensures.nodes at c.insert_all.ensures.nodes) told,
     )
@@ -27,8 +26,7 @@ returns-else-is_supplied-clause-told c = λ test supplied told.
     let start = alone_explored ends ps node _ _ c.insert.ensures.nodes c.clear.ensures.nodes in
     let same = c.finish.ensures.same node start test supplied.alike in
     let none = sym c.has-is_supplied.ensures ∙ c.if-is_supplied.false in
-    let isnt = without_grid ends ps node found test supplied same none (c.finish.ensures.whole node start none) in
-    (
+    let isnt = without_grid ends ps node found test supplied same none (c.finish.ensures.whole node start none) in (
       c.if-is_supplied.false ∙ sym isnt,
       more_dead ends ps node found test supplied same c.args.live.now.nodes c.args.dead.now.nodes c.insert_all-else-is_supplied.new.self.nodes isnt
           (rw c.nodes-else-is_supplied.ensures.nodes at c.insert_all-else-is_supplied.ensures.nodes) told,
