@@ -1,0 +1,41 @@
+-- What a device cuts off, as it is found while entries act one after another.
+use Rattle.std.specs.Prelude.{◌≡◌, ◌<◌, ◌&&◌, ℕ, Bool, not, List, [], Option, Some, None, length}
+use Rattle.ob_base.specs.declared.Pos.{Pos}
+use Rattle.ob_net.specs.Apart.{device_at, is_at}
+use Rattle.ob_net.specs.CutOff.{IsCutOff, IsJoined, is_within}
+use Rattle.ob_net.specs.Network.{Network}
+use Rattle.ob_net.specs.Nodes.{is_among}
+use Rattle.ob_net.specs.Traces.{IsTracerOf}
+use Rattle.ob_net.specs.Walk.{is_closed}
+use Rattle.ob_net.specs.declared.tracer.CutEnd.{CutEnd}
+use Rattle.ob_sheet.specs.declared.Entry.{Entry}
+use Rattle.ob_sweep.specs.Acting.{pos_as_of}
+use Rattle.ob_sweep.specs.declared.cut_off.CutOff.{CutOff}
+
+-- the nodes that were found are those which an end of the device is cut off with; where neither end is, the device's ends are joined
+-- between those nodes
+abbrev pub HasFound : Network → List Pos → ℕ → Option CutEnd → List ℕ → Type 0
+HasFound net positions device (Some cut) found = IsCutOff net positions device cut.other cut.end (is_among found)
+HasFound net positions device None found = IsJoined net positions device (is_among found)
+
+-- the nodes that are supplied through the device alone
+abbrev pub nodes_through : Option CutEnd → List ℕ → List ℕ
+nodes_through (Some cut) found = found
+nodes_through None found = []
+
+-- the device's other end
+abbrev pub other_end : Option CutEnd → ℕ
+other_end (Some cut) = cut.other
+other_end None = 0
+
+-- an entry may alter what was found: one of its device's ends is cut off, or it opens a device between the nodes over which the ends are joined
+abbrev pub may_alter : Network → ℕ → Option CutEnd → List ℕ → Entry → Bool
+may_alter net t (Some cut) found e = is_at (is_among found) (device_at net.devices e.device)
+may_alter net t None found e = not (is_closed (pos_as_of net t e.device e.pos)) && is_within (is_among found) (device_at net.devices e.device)
+
+-- it is of a device of the network, of which each device has a position, and the nodes are those that were found then
+pub record IsCut (net : Network) (c : CutOff) : Type 0 where
+  pub of : IsTracerOf net c.tracer
+  pub device : c.device < length net.devices
+  pub positions : length c.positions.items ≡ length net.devices
+  pub found : HasFound net c.positions.items c.device c.cut c.tracer.found
