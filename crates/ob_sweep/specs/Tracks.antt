@@ -1,13 +1,15 @@
 -- How far the new runs of a section are found, and what it goes by from there on: the old history of a section, or no supply.
-use Rattle.std.specs.Prelude.{◌≡◌, ℕ, suc, ◌<◌, ◌≤◌, ◌==◌, nat_lt, Bool, true, false, List, [], ◌∷◌, Option, Some, None, map, if◌then◌else◌}
+use Rattle.std.specs.Prelude.{◌≡◌, ℕ, suc, ◌<◌, ◌≤◌, ◌==◌, nat_lt, Bool, true, false, List, [], ◌∷◌, Option, Some, None, map, length, slice_index_or, if◌then◌else◌}
 use Rattle.ob_base.specs.declared.Pos.{Pos}
+use Rattle.ob_net.specs.Network.{Network}
 use Rattle.ob_net.specs.Walk.{is_closed}
 use Rattle.ob_sweep.specs.Differences.{AllDuring, IsIndifferent, SaySame, Supplies}
 use Rattle.ob_sweep.specs.Moments.{Moment, at_end, section_history}
 use Rattle.ob_sweep.specs.Runs.{History, runs_between}
 use Rattle.ob_sweep.specs.Splice.{back, front}
-use Rattle.ob_sweep.specs.Timeline.{runs_at}
+use Rattle.ob_sweep.specs.Timeline.{IsSection, runs_at}
 use Rattle.ob_sweep.specs.declared.Run.{Run}
+use Rattle.ob_sweep.specs.declared.track.Track.{Track}
 
 -- no supply at any second, and no entry that cuts off
 abbrev pub without_supply : History
@@ -53,3 +55,24 @@ pub record IsSecond (lit : Supplies) (device : ℕ) (old new : ℕ → History) 
   pub is : (v : ℕ) → SaySame (new v) (section_history (lit v) (λ t. m)) s
   pub same : (v : ℕ) → AllDuring (IsIndifferent lit device v) m → SaySame (new v) (old v) s
   pub end : (v : ℕ) → IsIndifferent lit device v (at_end m) → (new v).deenergized s ≡ (old v).deenergized s
+
+-- the new runs of a section as they are kept
+abbrev pub IsTrackedBy : (ℕ → History) → (ℕ → History) → ℕ → ℕ → ℕ → ℕ → Track → Type 0
+IsTrackedBy old new lo first t v x = IsTracked old new lo first t v x.runs.items x.reached x.source
+
+-- those of each section
+abbrev pub AreTracked : Network → (ℕ → History) → (ℕ → History) → ℕ → ℕ → ℕ → List Track → Type 0
+AreTracked net old new lo first t tracks =
+    (v : ℕ) (d : Track) → v < length tracks → IsSection net v → IsTrackedBy old new lo first t v (slice_index_or tracks v d)
+
+-- each source is one of so many nodes
+abbrev pub AreWithin : ℕ → List Track → Type 0
+AreWithin count tracks = (k w : ℕ) (d : Track) → k < length tracks → (slice_index_or tracks k d).source ≡ Some w → w < count
+
+-- a section goes by a section
+abbrev pub GoBySections : Network → List Track → Type 0
+GoBySections net tracks = (v w : ℕ) (d : Track) → v < length tracks → IsSection net v → (slice_index_or tracks v d).source ≡ Some w → IsSection net w
+
+-- the lists are the old runs of the sections
+abbrev pub AreOldRuns : Network → (ℕ → History) → ℕ → ℕ → List (List Run) → Type 0
+AreOldRuns net old lo hi lists = (v : ℕ) → IsSection net v → runs_at lists v ≡ runs_between v (old v) lo hi
