@@ -1,15 +1,17 @@
 -- What a device cuts off, as it is found while entries act one after another.
-use Rattle.std.specs.Prelude.{◌≡◌, ◌<◌, ◌&&◌, ℕ, Bool, not, List, [], Option, Some, None, length}
+use Rattle.std.specs.Prelude.{◌≡◌, ◌<◌, ◌&&◌, ℕ, Bool, false, not, List, [], Option, Some, None, length}
+use Rattle.std.specs.List.{All}
 use Rattle.ob_base.specs.declared.Pos.{Pos}
 use Rattle.ob_net.specs.Apart.{device_at, is_at}
 use Rattle.ob_net.specs.CutOff.{IsCutOff, IsJoined, is_within}
 use Rattle.ob_net.specs.Network.{Network}
 use Rattle.ob_net.specs.Nodes.{is_among}
 use Rattle.ob_net.specs.Traces.{IsTracerOf}
-use Rattle.ob_net.specs.Walk.{is_closed}
+use Rattle.ob_net.specs.Walk.{is_closed, is_supplied}
 use Rattle.ob_net.specs.declared.tracer.CutEnd.{CutEnd}
 use Rattle.ob_sheet.specs.declared.Entry.{Entry}
-use Rattle.ob_sweep.specs.Acting.{pos_as_of}
+use Rattle.ob_sweep.specs.Acting.{moment_of, moved_all, pos_as_of}
+use Rattle.ob_sweep.specs.Differences.{AllDuring, IsIndifferent}
 use Rattle.ob_sweep.specs.declared.cut_off.CutOff.{CutOff}
 
 -- the nodes that were found are those which an end of the device is cut off with; where neither end is, the device's ends are joined
@@ -39,3 +41,16 @@ pub record IsCut (net : Network) (c : CutOff) : Type 0 where
   pub device : c.device < length net.devices
   pub positions : length c.positions.items ≡ length net.devices
   pub found : HasFound net c.positions.items c.device c.cut c.tracer.found
+
+-- a device took the entries of a second, and some nodes were collected: the device makes no difference to any other node, neither before
+-- the entries nor after any of them, and all that are supplied through it alone before them or at last are among them
+pub record AreCollected (net : Network) (was : CutOff) (entries : List Entry) (nodes : List ℕ) (now : CutOff) : Type 0 where
+  pub of : IsCut net now
+  pub device : now.device ≡ was.device
+  pub second : now.second ≡ was.second
+  pub positions : now.positions.items ≡ moved_all net was.second was.positions.items entries
+  pub below : All (λ v. v < length net.nodes) nodes
+  pub same : (v : ℕ) → is_among nodes v ≡ false
+      → AllDuring (IsIndifferent (λ w ps. is_supplied net ps w) was.device v) (moment_of net was.second was.positions.items entries)
+  pub first : (v : ℕ) → is_among nodes v ≡ false → is_among (nodes_through was.cut was.tracer.found) v ≡ false
+  pub last : (v : ℕ) → is_among nodes v ≡ false → is_among (nodes_through now.cut now.tracer.found) v ≡ false

@@ -1,12 +1,13 @@
 -- How far the new runs of a section are found, and what it goes by from there on: the old history of a section, or no supply.
-use Rattle.std.specs.Prelude.{◌≡◌, ℕ, suc, ◌<◌, ◌≤◌, ◌==◌, nat_lt, Bool, true, false, List, [], ◌∷◌, Option, Some, None, map, length, slice_index_or, if◌then◌else◌}
+use Rattle.std.specs.Prelude.{◌≡◌, ℕ, ◌+◌, IsTrue, not, suc, ◌<◌, ◌≤◌, ◌==◌, nat_lt, Bool, true, false, List, [], ◌∷◌, Option, Some, None, map, length, slice_index_or, if◌then◌else◌}
 use Rattle.ob_base.specs.declared.Pos.{Pos}
 use Rattle.ob_net.specs.Network.{Network}
+use Rattle.ob_net.specs.Nodes.{is_among}
 use Rattle.ob_net.specs.Walk.{is_closed}
 use Rattle.ob_sweep.specs.Differences.{AllDuring, IsIndifferent, SaySame, Supplies}
 use Rattle.ob_sweep.specs.Moments.{Moment, at_end, section_history}
 use Rattle.ob_sweep.specs.Runs.{History, runs_between}
-use Rattle.ob_sweep.specs.Splice.{back, front}
+use Rattle.ob_sweep.specs.Splice.{back, front, join}
 use Rattle.ob_sweep.specs.Timeline.{IsSection, runs_at}
 use Rattle.ob_sweep.specs.declared.Run.{Run}
 use Rattle.ob_sweep.specs.declared.track.Track.{Track}
@@ -76,3 +77,19 @@ GoBySections net tracks = (v w : ℕ) (d : Track) → v < length tracks → IsSe
 -- the lists are the old runs of the sections
 abbrev pub AreOldRuns : Network → (ℕ → History) → ℕ → ℕ → List (List Run) → Type 0
 AreOldRuns net old lo hi lists = (v : ℕ) → IsSection net v → runs_at lists v ≡ runs_between v (old v) lo hi
+
+-- a second was added to the track of a section that reached up to it: without supply then or with it, by this cutter; it is a node's own
+-- from then on
+pub record IsAdded (v second : ℕ) (is_supplied : Bool) (cutter : Option ℕ) (was now : Track) : Type 0 where
+  pub runs : now.runs.items ≡ join second was.runs.items
+      (if not is_supplied then record { section = v; since = second; until = second + 1; cutter = cutter } ∷ [] else [])
+  pub reached : now.reached ≡ second + 1
+  pub source : now.source ≡ Some v
+
+-- to those of the listed nodes, where each has the supply and the cutter of one of its places in the list; the others are as they were
+pub record AreAdded (nodes : List ℕ) (supplied : List Bool) (cutters : List (Option ℕ)) (second : ℕ) (was now : List Track) : Type 0 where
+  pub count : length now ≡ length was
+  pub listed : (v : ℕ) (d : Track) → IsTrue (is_among nodes v)
+      → (k : ℕ) × (k < length nodes) × (slice_index_or nodes k 0 ≡ v)
+      × IsAdded v second (slice_index_or supplied k false) (slice_index_or cutters k None) (slice_index_or was v d) (slice_index_or now v d)
+  pub others : (v : ℕ) (d : Track) → is_among nodes v ≡ false → slice_index_or now v d ≡ slice_index_or was v d

@@ -1,5 +1,5 @@
 //! What a device cuts off, while entries act one after another.
-ghost use Rattle.std.specs.Prelude.{◌≡◌, ◌<◌, ◌≤◌, ◌+◌, ℕ, IfOk, IfErr, IsTrue, OnOk, false, length, IfSome};
+ghost use Rattle.std.specs.Prelude.{◌≡◌, ◌<◌, ◌≤◌, ◌+◌, ◌&&◌, ℕ, Option, Some, IfOk, IfErr, IsTrue, OnOk, false, length, not, slice_index_or, IfSome, if◌then◌else◌};
 ghost use Rattle.std.specs.List.{All};
 ghost use Rattle.ob_base.specs.Stop.{out_of_memory};
 ghost use Rattle.ob_net.specs.Nodes.{is_among};
@@ -30,7 +30,8 @@ impl CutOff {
     ghost use Rattle.std.specs.List.{All};
     ghost use Rattle.ob_base.specs.Stop.{out_of_memory};
     ghost use Rattle.ob_sweep.specs.Acting.{moved};
-    ghost use Rattle.ob_sweep.specs.CutOffs.{IsCut, may_alter, nodes_through};
+    ghost use Rattle.ob_sheet.specs.Sheet.{NameDevices};
+    ghost use Rattle.ob_sweep.specs.CutOffs.{AreCollected, IsCut, may_alter, nodes_through};
 
     /// Finds what a device cuts off at some positions, with devices in service as of a second.
     pub fn find(
@@ -64,7 +65,8 @@ impl CutOff {
 
     /// The nodes that are supplied through the device alone.
     pub fn nodes(&self) -> &[u16]
-        ensures { result.now ≡ nodes_through self.now.cut self.now.tracer.found }
+        ensures nodes { result.now ≡ nodes_through self.now.cut self.now.tracer.found }
+        ensures below { All (λ v. v < self.now.tracer.nodes) result.now }
     {
         if self.cut.is_some() {
             self.tracer.found()
@@ -106,6 +108,49 @@ impl CutOff {
         self.positions[usize::from(entry.device)] = position_of(net, entry, self.second);
         if alters {
             self.cut = net.cut_off(&mut self.tracer, self.device, &mut self.positions);
+        }
+    }
+
+    /// Takes the entries of a second, one after another. Answers the nodes that are supplied through
+    /// the device alone before the second or after one of its entries, some of them more than once.
+    pub fn take_all(
+        &mut self,
+        alloc: Global,
+        net: &mut Net,
+        entries: &[Entry],
+    ) -> Result<Vec<u16>, AllocError>
+        requires of { IsCut net.old.network self.old }
+        requires devices { NameDevices (length net.old.network.devices) entries.now }
+        ensures collected { IfOk result (λ nodes. AreCollected net.old.network self.old entries.now
+            nodes.items self.new) }
+        ensures network { net.new.network ≡ net.old.network }
+        ensures node_room { net.new.node_room ≡ net.old.node_room }
+        ensures device_room { net.new.device_room ≡ net.old.device_room }
+        ensures searches { net.new.searches ≤ net.old.searches + length entries.now }
+    {
+        let mut nodes = Vec::new(alloc);
+        nodes.extend_from_slice(self.nodes())?;
+        for entry in entries {
+            self.take(net, entry);
+            nodes.extend_from_slice(self.nodes())?;
+        }
+        Ok(nodes)
+    }
+}
+
+/// Notes the entry with a number as the cutter of each node that had supply before it and has none
+/// after it.
+fn note_cuts(before: &[bool], after: &[bool], cutters: &mut [Option<u32>], number: u32)
+    requires before { length before.now ≡ length cutters.old }
+    requires after { length after.now ≡ length cutters.old }
+    ensures count { length cutters.new ≡ length cutters.old }
+    ensures each { (k : ℕ) (d : Option ℕ) → k < length cutters.old
+        → slice_index_or cutters.new k d ≡ (if slice_index_or before.now k false
+        && not (slice_index_or after.now k false) then Some number else slice_index_or cutters.old k d) }
+{
+    for place in 0..cutters.len() {
+        if before[place] && !after[place] {
+            cutters[place] = Some(number);
         }
     }
 }

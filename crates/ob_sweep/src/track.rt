@@ -5,7 +5,7 @@ ghost use Rattle.ob_net.specs.Network.{Network};
 ghost use Rattle.ob_net.specs.Nodes.{is_among};
 ghost use Rattle.ob_sweep.specs.Runs.{History};
 ghost use Rattle.ob_sweep.specs.Splice.{back, front, join};
-ghost use Rattle.ob_sweep.specs.Tracks.{AreOldRuns, AreTracked, AreWithin, GoBySections, part_of};
+ghost use Rattle.ob_sweep.specs.Tracks.{AreAdded, AreOldRuns, AreTracked, AreWithin, GoBySections, part_of};
 ghost use Rattle.ob_sweep.specs.declared.track.Track.{Track as ATrack};
 ghost use Rattle.ob_sweep.specs.declared.Run.{Run as ARun};
 
@@ -178,4 +178,51 @@ fn add_second(
     track.reached = end;
     track.source = Some(node);
     Ok(())
+}
+
+/// Adds a second, up to its end, to the intervals of some nodes that are found up to it, given
+/// whether each of them has supply then and which entry of the second cut it off. A node may be
+/// listed more than once.
+pub fn add_each(
+    tracks: &mut [Track],
+    nodes: &[u16],
+    supplied: &[bool],
+    cutters: &[Option<u32>],
+    second: Second,
+    end: Second,
+) -> Result<(), AllocError>
+    requires nodes { All (λ v. v < length tracks.old) nodes.now }
+    requires supplied { length supplied.now ≡ length nodes.now }
+    requires cutters { length cutters.now ≡ length nodes.now }
+    requires next { end ≡ second + 1 }
+    requires reached { (v : ℕ) (d : ATrack) → IsTrue (is_among nodes.now v)
+        → (slice_index_or tracks.old v d).reached ≡ second }
+    ensures added { OnOk result (AreAdded nodes.now supplied.now cutters.now second tracks.old
+        tracks.new) }
+    ensures count { length tracks.new ≡ length tracks.old }
+{
+    for (place, node) in nodes.iter().enumerate() {
+        let track = &mut tracks[usize::from(*node)];
+        if track.reached < end {
+            add_second(track, *node, second, end, supplied[place], cutters[place])?;
+        }
+    }
+    Ok(())
+}
+
+/// Lets some nodes go by the old intervals of a node, or have no supply, from now on.
+pub fn set_sources(tracks: &mut [Track], nodes: &[u16], source: Option<u16>)
+    requires nodes { All (λ v. v < length tracks.old) nodes.now }
+    ensures count { length tracks.new ≡ length tracks.old }
+    ensures runs { (v : ℕ) (d : ATrack) → (slice_index_or tracks.new v d).runs
+        ≡ (slice_index_or tracks.old v d).runs }
+    ensures reached { (v : ℕ) (d : ATrack) → (slice_index_or tracks.new v d).reached
+        ≡ (slice_index_or tracks.old v d).reached }
+    ensures sources { (v : ℕ) (d : ATrack) → v < length tracks.old
+        → (slice_index_or tracks.new v d).source
+        ≡ (if is_among nodes.now v then source else (slice_index_or tracks.old v d).source) }
+{
+    for node in nodes {
+        tracks[usize::from(*node)].source = source;
+    }
 }
