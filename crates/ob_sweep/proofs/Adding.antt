@@ -1,6 +1,6 @@
 -- A second added to the tracks of some nodes, one after another, some of them listed more than once.
-use Rattle.std.proofs.Common.{◌≡◌, ◌+◌, ◌<◌, ◌≤◌, ℕ, inl, inr, Bool, IsTrue, true, false, List, [], ◌∷◌, ◌++◌, Option, None, Some, refl, sym, ◌∙◌, ap, subst, arith, length, get_or, set, length-set}
-use Rattle.std.proofs.lemmas.Bool.{cases_Bool, cases_eq, false≢true}
+use Rattle.std.proofs.Common.{◌≡◌, ◌+◌, ◌<◌, ◌≤◌, ◌==◌, ℕ, zero, suc, inl, inr, Bool, IsTrue, true, false, List, [], ◌∷◌, ◌++◌, Option, None, Some, refl, sym, ◌∙◌, ap, subst, arith, length, get_or, set, length-set}
+use Rattle.std.proofs.lemmas.Bool.{cases_Bool, cases_eq, eq-eqb, false≢true, or_left, or_right}
 use Rattle.std.proofs.lemmas.List.{get_or-set_same, get_or-set_other}
 use Rattle.ob_net.proofs.Nodes.{among_before, among_last}
 use Rattle.ob_net.specs.Nodes.{is_among}
@@ -84,3 +84,8 @@ module _ (nodes taken : List ℕ) (supplied : List Bool) (cutters : List (Option
             | inr ne ↦ get_or-set_other now x v new e ne ∙ h.others v e (sym (among_before taken x v (λ q. ne (sym q))) ∙ none)
           ];
         }
+
+pub at_place : (nodes : List ℕ) (i v : ℕ) → i < length nodes → get_or nodes i 0 ≡ v → is_among nodes v ≡ true
+at_place [] i v l is = absurd (omega arith)
+at_place (n ∷ ns) zero v l is = or_left (n == v) (is_among ns v) (eq-eqb n v is)
+at_place (n ∷ ns) (suc i) v l is = or_right (n == v) (is_among ns v) (at_place ns i v (omega arith) is)

@@ -1,5 +1,5 @@
 -- What a device cuts off, as it is found while entries act one after another.
-use Rattle.std.specs.Prelude.{◌≡◌, ◌<◌, ◌&&◌, ℕ, Bool, false, not, List, [], Option, Some, None, length}
+use Rattle.std.specs.Prelude.{◌≡◌, ◌<◌, ◌&&◌, ℕ, Bool, false, not, List, [], Option, Some, None, length, map, slice_index_or}
 use Rattle.std.specs.List.{All}
 use Rattle.ob_base.specs.declared.Pos.{Pos}
 use Rattle.ob_net.specs.Apart.{device_at, is_at}
@@ -10,7 +10,8 @@ use Rattle.ob_net.specs.Traces.{IsTracerOf}
 use Rattle.ob_net.specs.Walk.{is_closed, is_supplied}
 use Rattle.ob_net.specs.declared.tracer.CutEnd.{CutEnd}
 use Rattle.ob_sheet.specs.declared.Entry.{Entry}
-use Rattle.ob_sweep.specs.Acting.{moment_of, moved_all, pos_as_of}
+use Rattle.ob_sweep.specs.Acting.{moment_of, moved_all, pos_as_of, steps_from}
+use Rattle.ob_sweep.specs.Moments.{last_cut}
 use Rattle.ob_sweep.specs.Differences.{AllDuring, IsIndifferent}
 use Rattle.ob_sweep.specs.declared.cut_off.CutOff.{CutOff}
 
@@ -54,3 +55,10 @@ pub record AreCollected (net : Network) (was : CutOff) (entries : List Entry) (n
       → AllDuring (IsIndifferent (λ w ps. is_supplied net ps w) was.device v) (moment_of net was.second was.positions.items entries)
   pub first : (v : ℕ) → is_among nodes v ≡ false → is_among (nodes_through was.cut was.tracer.found) v ≡ false
   pub last : (v : ℕ) → is_among nodes v ≡ false → is_among (nodes_through now.cut now.tracer.found) v ≡ false
+
+-- each listed node has this supply after the entries, and this last cutter among them
+pub record AreLooked (net : Network) (t : ℕ) (positions : List Pos) (entries : List Entry) (nodes : List ℕ) (supplied : List Bool) (cutters : List (Option ℕ)) : Type 0 where
+  pub supplied_now : supplied ≡ map (is_supplied net (moved_all net t positions entries)) nodes
+  pub count : length cutters ≡ length nodes
+  pub last : (k : ℕ) (d : Option ℕ) → k < length nodes
+      → slice_index_or cutters k d ≡ last_cut (λ ps. is_supplied net ps (slice_index_or nodes k 0)) positions (steps_from net t positions entries)

@@ -13,6 +13,7 @@ use ob_base::{Pos, Second, Stop};
 use ob_net::{CutEnd, Net, Tracer};
 use ob_sheet::Entry;
 use std::alloc::{AllocError, Global};
+use std::mem;
 
 /// What a device cuts off at some positions.
 #[derive(Drop)]
@@ -31,7 +32,10 @@ impl CutOff {
     ghost use Rattle.ob_base.specs.Stop.{out_of_memory};
     ghost use Rattle.ob_sweep.specs.Acting.{moved};
     ghost use Rattle.ob_sheet.specs.Sheet.{NameDevices};
-    ghost use Rattle.ob_sweep.specs.CutOffs.{AreCollected, IsCut, may_alter, nodes_through};
+    ghost use Rattle.ob_net.specs.Traces.{IsTracerOf};
+    ghost use Rattle.std.specs.Prelude.{OnOk};
+    ghost use Rattle.ob_sweep.specs.Acting.{moved_all};
+    ghost use Rattle.ob_sweep.specs.CutOffs.{AreCollected, AreLooked, IsCut, may_alter, nodes_through};
 
     /// Finds what a device cuts off at some positions, with devices in service as of a second.
     pub fn find(
@@ -135,6 +139,40 @@ impl CutOff {
             nodes.extend_from_slice(self.nodes())?;
         }
         Ok(nodes)
+    }
+
+    /// Looks at each of some nodes as the entries of a second act, one after another, from the
+    /// positions before them on: whether it has supply at last, and which entry was the last to cut
+    /// it off.
+    pub fn look(
+        &mut self,
+        alloc: Global,
+        net: &Net,
+        positions: &mut [Pos],
+        nodes: &[u16],
+        entries: &[Entry],
+    ) -> Result<(Vec<bool>, Vec<Option<u32>>), AllocError>
+        requires of { IsTracerOf net.now.network self.old.tracer }
+        requires positions { length positions.old ≡ length net.now.network.devices }
+        requires nodes { All (λ v. v < length net.now.network.nodes) nodes.now }
+        requires devices { NameDevices (length net.now.network.devices) entries.now }
+        ensures same { self.new ≡ self.old }
+        ensures positions { OnOk result (positions.new ≡ moved_all net.now.network self.old.second
+            positions.old entries.now) }
+        ensures looked { IfOk result (λ r. AreLooked net.now.network self.old.second positions.old
+            entries.now nodes.now r.0.items r.1.items) }
+    {
+        let mut supplied = vec![in alloc; false; nodes.len()]?;
+        let mut next = vec![in alloc; false; nodes.len()]?;
+        let mut cutters = vec![in alloc; None; nodes.len()]?;
+        net.supplied_among(&mut self.tracer, positions, nodes, &mut supplied);
+        for entry in entries {
+            positions[usize::from(entry.device)] = position_of(net, entry, self.second);
+            net.supplied_among(&mut self.tracer, positions, nodes, &mut next);
+            note_cuts(&supplied, &next, &mut cutters, entry.no);
+            mem::swap(&mut supplied, &mut next);
+        }
+        Ok((supplied, cutters))
     }
 }
 
