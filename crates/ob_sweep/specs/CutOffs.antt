@@ -1,7 +1,8 @@
 -- What a device cuts off, as it is found while entries act one after another.
-use Rattle.std.specs.Prelude.{◌≡◌, ◌<◌, ◌&&◌, ℕ, Bool, false, not, List, [], Option, Some, None, length, map, slice_index_or}
+use Rattle.std.specs.Prelude.{◌≡◌, ◌<◌, ◌&&◌, ℕ, Bool, false, not, List, [], Option, Some, None, length, map, slice_index_or, if◌then◌else◌}
 use Rattle.std.specs.List.{All}
 use Rattle.ob_base.specs.declared.Pos.{Pos}
+use Rattle.ob_base.specs.declared.Pos.TheVariants.{Opened}
 use Rattle.ob_net.specs.Apart.{device_at, is_at}
 use Rattle.ob_net.specs.CutOff.{IsCutOff, IsJoined, is_within}
 use Rattle.ob_net.specs.Network.{Network}
@@ -13,7 +14,9 @@ use Rattle.ob_sheet.specs.declared.Entry.{Entry}
 use Rattle.ob_sweep.specs.Acting.{moment_of, moved_all, pos_as_of, steps_from}
 use Rattle.ob_sweep.specs.Moments.{last_cut}
 use Rattle.ob_sweep.specs.Differences.{AllDuring, IsIndifferent}
+use Rattle.ob_sweep.specs.Tracks.{goes_through}
 use Rattle.ob_sweep.specs.declared.cut_off.CutOff.{CutOff}
+use Rattle.ob_sweep.specs.declared.track.Track.{Track}
 
 -- the nodes that were found are those which an end of the device is cut off with; where neither end is, the device's ends are joined
 -- between those nodes
@@ -62,3 +65,19 @@ pub record AreLooked (net : Network) (t : ℕ) (positions : List Pos) (entries :
   pub count : length cutters ≡ length nodes
   pub last : (k : ℕ) (d : Option ℕ) → k < length nodes
       → slice_index_or cutters k d ≡ last_cut (λ ps. is_supplied net ps (slice_index_or nodes k 0)) positions (steps_from net t positions entries)
+
+-- what the nodes that are supplied through the device go by: its other end where it is closed, else no supply
+abbrev pub source_through : Option CutEnd → Pos → Option ℕ
+source_through (Some cut) pos = if is_closed pos then Some cut.other else None
+source_through None pos = None
+
+-- each node goes by its own old runs, or through the device
+abbrev pub GoThrough : CutOff → List Track → Type 0
+GoThrough c tracks =
+    (v : ℕ) (d : Track) → v < length tracks → (slice_index_or tracks v d).source
+    ≡ goes_through (is_among (nodes_through c.cut c.tracer.found)) (other_end c.cut) (slice_index_or c.positions.items c.device Opened) v
+
+-- each node that isn't supplied through it goes by its own
+abbrev pub GoOwnOutside : CutOff → List Track → Type 0
+GoOwnOutside c tracks =
+    (v : ℕ) (d : Track) → v < length tracks → is_among (nodes_through c.cut c.tracer.found) v ≡ false → (slice_index_or tracks v d).source ≡ Some v
