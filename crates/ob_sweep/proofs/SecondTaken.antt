@@ -1,9 +1,10 @@
 -- The tracks of all nodes after a second whose entries act at the nodes that are supplied through the device.
-use Rattle.std.proofs.Common.{◌≡◌, ◌+◌, ◌<◌, ◌≤◌, ℕ, suc, inl, inr, Bool, IsTrue, true, false, not, cond, List, [], ◌∷◌, Option, None, Some, Vec, Global, refl, sym, ◌∙◌, ap, subst, arith, length, get_or}
+use Rattle.std.proofs.Common.{◌≡◌, ◌+◌, ◌<◌, ◌≤◌, ℕ, suc, inl, inr, Bool, IsTrue, true, false, not, cond, List, [], ◌∷◌, Option, None, Some, Vec, Global, IfSome, refl, sym, ◌∙◌, ap, subst, arith, length, get_or}
 use Rattle.std.proofs.lemmas.Bool.{cases_Bool, cond-true, cond-false, false≢true}
 use Rattle.std.proofs.lemmas.List.{get_or-map}
+use Rattle.std.proofs.lemmas.Option.{none-some, same_Some}
 use Rattle.ob_base.specs.declared.Pos.{Pos}
-use Rattle.ob_base.specs.declared.Pos.TheVariants.{Opened}
+use Rattle.ob_base.specs.declared.Pos.TheVariants.{Opened, Closed}
 use Rattle.ob_net.specs.Network.{Network}
 use Rattle.ob_net.specs.Nodes.{is_among}
 use Rattle.ob_net.specs.Walk.{is_closed, is_supplied}
@@ -16,7 +17,7 @@ use Rattle.ob_sweep.specs.Moments.{Moment, at_end, last_cut}
 use Rattle.ob_sweep.specs.Runs.{History}
 use Rattle.ob_sweep.specs.Splice.{join}
 use Rattle.ob_sweep.specs.Timeline.{IsSection}
-use Rattle.ob_sweep.specs.Tracks.{AreAdded, AreTracked, IsSecond, IsTracked, IsTrackedBy, goes_by, goes_through}
+use Rattle.ob_sweep.specs.Tracks.{AreAdded, AreTracked, AreWithin, IsSecond, IsTracked, IsTrackedBy, goes_by, goes_through}
 use Rattle.ob_sweep.specs.declared.Run.{Run}
 use Rattle.ob_sweep.specs.declared.cut_off.CutOff.{CutOff}
 use Rattle.ob_sweep.specs.declared.track.Track.{Track}
@@ -30,6 +31,11 @@ inside_source : (cut : Option CutEnd) (found : List ℕ) (pos : Pos) (v : ℕ) �
     → source_through cut pos ≡ goes_through (is_among (nodes_through cut found)) (other_end cut) pos v
 inside_source (Some cut) found pos v t = sym (cond-true (is_among found v) (cond (is_closed pos) (Some cut.other) None) (Some v) t)
 inside_source None found pos v t = absurd (false≢true t)
+
+below_source : (cut : Option CutEnd) (pos : Pos) (w n : ℕ) → IfSome cut (λ (c : CutEnd). (c.end < n) × (c.other < n)) → source_through cut pos ≡ Some w → w < n
+below_source (Some cut) Closed w n h is = subst (λ (k : ℕ). k < n) (same_Some cut.other w is) h.1
+below_source (Some cut) Opened w n h is = absurd (none-some w is)
+below_source None pos w n h is = absurd (none-some w is)
 
 module _ (net : Network) (c0 c1 : CutOff) (entries : List Entry) (nodes : List ℕ) (collected : AreCollected net c0 entries nodes c1) (second : ℕ)
     (was reached added last : List Track) (supplied : List Bool) (cutters : List (Option ℕ))
@@ -78,6 +84,23 @@ module _ (net : Network) (c0 c1 : CutOff) (entries : List Entry) (nodes : List �
         | inr n ↦
             from_own v d (omega (arith, l, count_last))
             (ap (λ (y : Track). y.source) (outside v d n) ∙ own v d (omega (arith, l, many)) (collected.first v n))
+      ]
+
+  -- each source is a node
+  pub within_last : (n : ℕ) → length was ≡ n → IfSome c1.cut (λ (c : CutEnd). (c.end < n) × (c.other < n)) → AreWithin n was → AreWithin n last
+  within_last n size nodes_below within k w d l is =
+      let small : k < length added = omega (arith, l, count_last) in
+      let sourced = sources k d small in
+      elim (cases_Bool (has k)) as (λ _. w < n) [
+        | inl t ↦ below_source c1.cut pos w n nodes_below (sym (cond-true (has k) (source_through c1.cut pos) (get_or added k d).source t) ∙ sym sourced ∙ is)
+        | inr f ↦
+            let kept : (get_or added k d).source ≡ Some w = sym (cond-false (has k) (source_through c1.cut pos) (get_or added k d).source f) ∙ sym sourced ∙ is in
+            elim (cases_Bool (is_among nodes k)) as (λ _. w < n) [
+              | inl y ↦
+                  let same : k ≡ w = same_Some k w (sym (adds.listed k d y).3.source ∙ kept) in
+                  omega (arith, l, many, size, same)
+              | inr y ↦ within k w d (omega (arith, l, many)) (sym (ap (λ (z : Track). z.source) (outside k d y)) ∙ kept)
+            ]
       ]
 
   module _ (g h : ℕ → History) (lo first : ℕ) (la : lo ≤ first) (sec : IsSecond (λ v ps. is_supplied net ps v) c0.device g h second m)

@@ -1,5 +1,5 @@
 -- What a device cuts off, as it is found while entries act one after another.
-use Rattle.std.specs.Prelude.{◌≡◌, ◌<◌, ◌&&◌, ℕ, Bool, false, not, List, [], Option, Some, None, length, map, slice_index_or, if◌then◌else◌}
+use Rattle.std.specs.Prelude.{◌≡◌, ◌<◌, ◌&&◌, ℕ, Bool, false, not, IfSome, List, [], Option, Some, None, length, map, slice_index_or, if◌then◌else◌}
 use Rattle.std.specs.List.{All}
 use Rattle.ob_base.specs.declared.Pos.{Pos}
 use Rattle.ob_base.specs.declared.Pos.TheVariants.{Opened}
@@ -45,6 +45,7 @@ pub record IsCut (net : Network) (c : CutOff) : Type 0 where
   pub device : c.device < length net.devices
   pub positions : length c.positions.items ≡ length net.devices
   pub found : HasFound net c.positions.items c.device c.cut c.tracer.found
+  pub are_nodes : IfSome c.cut (λ cut. (cut.end < length net.nodes) × (cut.other < length net.nodes))
 
 -- a device took the entries of a second, and some nodes were collected: the device makes no difference to any other node, neither before
 -- the entries nor after any of them, and all that are supplied through it alone before them or at last are among them

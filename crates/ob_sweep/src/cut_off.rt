@@ -33,9 +33,10 @@ impl CutOff {
     ghost use Rattle.ob_sweep.specs.Acting.{moved};
     ghost use Rattle.ob_sheet.specs.Sheet.{NameDevices};
     ghost use Rattle.ob_net.specs.Traces.{IsTracerOf};
-    ghost use Rattle.std.specs.Prelude.{OnOk};
+    ghost use Rattle.std.specs.Prelude.{OnOk, slice_index_or};
+    ghost use Rattle.ob_base.specs.declared.Pos.TheVariants.{Opened};
     ghost use Rattle.ob_sweep.specs.Acting.{moved_all};
-    ghost use Rattle.ob_sweep.specs.CutOffs.{AreCollected, AreLooked, IsCut, may_alter, nodes_through};
+    ghost use Rattle.ob_sweep.specs.CutOffs.{AreCollected, AreLooked, IsCut, may_alter, nodes_through, source_through};
 
     /// Finds what a device cuts off at some positions, with devices in service as of a second.
     pub fn find(
@@ -76,6 +77,21 @@ impl CutOff {
             self.tracer.found()
         } else {
             &[]
+        }
+    }
+
+    /// What these nodes go by now: the old intervals of the device's other end if the device is
+    /// closed, and no supply if it is open.
+    pub fn source(&self) -> Option<u16>
+        requires { self.now.device < length self.now.positions.items }
+        ensures { result ≡ source_through self.now.cut
+            (slice_index_or self.now.positions.items self.now.device Opened) }
+    {
+        let cut = self.cut?;
+        if self.positions[usize::from(self.device)] == Pos::Closed {
+            Some(cut.other)
+        } else {
+            None
         }
     }
 

@@ -12,6 +12,7 @@ returns-else-alters-clause-of c =
     record {
       of = c.requires.of.of;
       device = c.requires.of.device;
+      are_nodes = c.requires.of.are_nodes;
       positions = length-set self.positions.items c.from.result c.position_of.result ∙ c.requires.of.positions;
       found =
           subst (λ (k : ℕ). HasFound net (set self.positions.items k c.position_of.result) self.device self.cut self.tracer.found) (sym c.from.ensures)
