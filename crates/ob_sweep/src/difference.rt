@@ -1,5 +1,72 @@
 //! What a change of one device's position alters in the outage intervals.
+ghost use Rattle.std.specs.Prelude.{◌≡◌, ◌≤◌, ◌+◌, OnOk, length, map};
+ghost use Rattle.ob_sheet.specs.Sheet.{NameDevices};
 ghost use Rattle.ob_sweep.specs.Differences.{DifferenceLaw, StretchLaw};
+ghost use Rattle.ob_sweep.specs.States.{IsState, IsTaken};
+
+use crate::Run;
+use crate::cut_off::CutOff;
+use crate::track::{Track, add_each, reach_each, set_sources};
+use ob_base::{Pos, Second};
+use ob_net::Net;
+use ob_sheet::Entry;
+use std::alloc::{AllocError, Global};
+
+/// The outage intervals after a change of one device, as they are found second by second.
+#[derive(Drop)]
+pub struct Differences {
+    cut: CutOff,
+    // The positions before the next entry.
+    positions: Vec<Pos>,
+    tracks: Vec<Track>,
+}
+
+impl Differences {
+    ghost use Rattle.std.specs.Prelude.{◌≡◌, ◌≤◌, ◌+◌, OnOk, length, map};
+    ghost use Rattle.ob_sheet.specs.Sheet.{NameDevices};
+    ghost use Rattle.ob_sweep.specs.States.{IsState, IsTaken};
+
+    /// Takes the entries of a second, some of which may alter what the device cuts off. `end` is
+    /// the second after it.
+    fn take_second(
+        &mut self,
+        alloc: Global,
+        net: &mut Net,
+        old: &[Vec<Run>],
+        entries: &[Entry],
+        second: Second,
+        end: Second,
+    ) -> Result<(), AllocError>
+        requires state { IsState net.old.network self.old }
+        requires old { length net.old.network.nodes ≤ length old.now }
+        requires devices { NameDevices (length net.old.network.devices) entries.now }
+        requires next { end ≡ second + 1 }
+        ensures state { OnOk result (IsState net.old.network self.new) }
+        ensures taken { OnOk result (IsTaken net.old.network entries.now second
+            (map (λ l. l.items) old.now) self.old self.new) }
+        ensures network { net.new.network ≡ net.old.network }
+        ensures node_room { net.new.node_room ≡ net.old.node_room }
+        ensures device_room { net.new.device_room ≡ net.old.device_room }
+        ensures searches { net.new.searches ≤ net.old.searches + length entries.now }
+    {
+        let nodes = self.cut.take_all(alloc, net, entries)?;
+        reach_each(alloc, &mut self.tracks, &nodes, old, second)?;
+        let (supplied, cutters) =
+            self.cut
+                .look(alloc, net, &mut self.positions, &nodes, entries)?;
+        add_each(
+            &mut self.tracks,
+            &nodes,
+            &supplied,
+            &cutters,
+            second,
+            end,
+        )?;
+        let source = self.cut.source();
+        set_sources(&mut self.tracks, self.cut.nodes(), source);
+        Ok(())
+    }
+}
 
 /// States what the position of one device makes of the outage intervals. Two histories of positions
 /// differ in the device alone. A section to which it makes no difference has the same history in
