@@ -1,7 +1,10 @@
 -- The tracks of all nodes after a second of which no entry alters what the device cuts off.
 use Rattle.std.proofs.Common.{◌≡◌, ◌||◌, ◌&&◌, ◌==◌, ◌<◌, ◌≤◌, ℕ, suc, inl, inr, Bool, IsTrue, true, false, not, List, [], ◌∷◌, Option, None, Some, IfSome, refl, sym, ◌∙◌, ap, subst, arith, length, get_or}
 use Rattle.std.proofs.Math.ListN.{set}
-use Rattle.std.specs.List.{AllByRecursion}
+use Rattle.std.specs.List.{All, AllByRecursion}
+use Rattle.std.proofs.lemmas.List.Elements.{recursion_from_All}
+use Rattle.ob_sheet.specs.Sheet.{NameDevices}
+use Rattle.ob_sweep.proofs.Parted.{each_both}
 use Rattle.std.proofs.lemmas.Bool.{and_parts, cases_eq, eqb-true, false≢true, true≢false, or_cases, or_left, or_right}
 use Rattle.std.proofs.lemmas.List.{get_or-set_other, length-set}
 use Rattle.ob_base.specs.declared.Pos.{Pos}
@@ -110,3 +113,9 @@ second_passed net c es tracks of quiet goes g h lo first second la sec all v d l
     (λ t. has_each net c.second c.device c.cut c.tracer.found v pos c.positions.items es of.positions quiet of.found t refl) in
     tracked_pass g h lo first la second v x.runs.items x.reached x.source
     (subst (λ (o : Option ℕ). SaySame (h v) (goes_by g o) second) (sym (goes v d l)) same) (all v d l section)
+
+pub quiet_all : (net : Network) (t d : ℕ) (cut : Option CutEnd) (found : List ℕ) (es : List Entry) → All (λ e. may_alter net t cut found e ≡ false) es → NameDevices (length net.devices) es
+    → Quiet net t d cut found es
+quiet_all net t d cut found es quiet names =
+    each_both (λ e. may_alter net t cut found e ≡ false) (λ e. e.device < length net.devices) es
+    (recursion_from_All (λ e. may_alter net t cut found e ≡ false) es quiet) (recursion_from_All (λ e. e.device < length net.devices) es names)

@@ -33,7 +33,7 @@ impl CutOff {
     ghost use Rattle.ob_sweep.specs.Acting.{moved};
     ghost use Rattle.ob_sheet.specs.Sheet.{NameDevices};
     ghost use Rattle.ob_net.specs.Traces.{IsTracerOf};
-    ghost use Rattle.std.specs.Prelude.{OnOk, slice_index_or};
+    ghost use Rattle.std.specs.Prelude.{OnOk, false, slice_index_or};
     ghost use Rattle.ob_base.specs.declared.Pos.TheVariants.{Opened};
     ghost use Rattle.ob_sweep.specs.Acting.{moved_all};
     ghost use Rattle.ob_sweep.specs.CutOffs.{AreCollected, AreLooked, IsCut, may_alter, nodes_through, source_through};
@@ -157,6 +157,38 @@ impl CutOff {
         Ok(nodes)
     }
 
+    /// Whether any of some entries may alter what the device cuts off.
+    pub fn any_alters(&self, net: &Net, entries: &[Entry]) -> bool
+        requires of { IsCut net.now.network self.now }
+        requires devices { NameDevices (length net.now.network.devices) entries.now }
+        ensures { ¬ IsTrue result → All (λ e. may_alter net.now.network self.now.second self.now.cut
+            self.now.tracer.found e ≡ false) entries.now }
+    {
+        for entry in entries {
+            if self.may_alter(net, entry) {
+                return true;
+            }
+        }
+        false
+    }
+
+    /// Takes entries none of which alters what the device cuts off.
+    pub fn pass(&mut self, net: &Net, entries: &[Entry])
+        requires of { IsCut net.now.network self.old }
+        requires devices { NameDevices (length net.now.network.devices) entries.now }
+        requires quiet { All (λ e. may_alter net.now.network self.old.second self.old.cut
+            self.old.tracer.found e ≡ false) entries.now }
+        ensures of { IsCut net.now.network self.new }
+        ensures device { self.new.device ≡ self.old.device }
+        ensures second { self.new.second ≡ self.old.second }
+        ensures cut { self.new.cut ≡ self.old.cut }
+        ensures tracer { self.new.tracer ≡ self.old.tracer }
+        ensures positions { self.new.positions.items ≡ moved_all net.now.network self.old.second
+            self.old.positions.items entries.now }
+    {
+        move_each(net, &mut self.positions, entries, self.second);
+    }
+
     /// Looks at each of some nodes as the entries of a second act, one after another, from the
     /// positions before them on: whether it has supply at last, and which entry was the last to cut
     /// it off.
@@ -189,6 +221,18 @@ impl CutOff {
             mem::swap(&mut supplied, &mut next);
         }
         Ok((supplied, cutters))
+    }
+}
+
+/// Moves the devices of some entries into their new positions, one after another, with devices in
+/// service as of a second.
+pub fn move_each(net: &Net, positions: &mut [Pos], entries: &[Entry], second: Second)
+    requires positions { length positions.old ≡ length net.now.network.devices }
+    requires devices { NameDevices (length net.now.network.devices) entries.now }
+    ensures { positions.new ≡ moved_all net.now.network second positions.old entries.now }
+{
+    for entry in entries {
+        positions[usize::from(entry.device)] = position_of(net, entry, second);
     }
 }
 
