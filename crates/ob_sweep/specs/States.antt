@@ -29,3 +29,14 @@ pub record IsTaken (net : Network) (entries : List Entry) (second : ℕ) (lists 
       → GoOwnOutside was.cut was.tracks.items → AreTracked net g h lo first second was.tracks.items
       → IsSecond (λ v ps. is_supplied net ps v) was.cut.device g h second (moment_of net was.cut.second was.positions.items entries)
       → AreTracked net g h lo first (second + 1) now.tracks.items
+
+-- the same of the entries of any second, where each node goes by its own old runs or through the device
+pub record IsGone (net : Network) (entries : List Entry) (second : ℕ) (lists : List (List Run)) (was now : Differences) : Type 0 where
+  pub device : now.cut.device ≡ was.cut.device
+  pub second_as_of : now.cut.second ≡ was.cut.second
+  pub positions : now.positions.items ≡ moved_all net was.cut.second was.positions.items entries
+  pub through : GoThrough was.cut was.tracks.items → GoThrough now.cut now.tracks.items
+  pub tracked : (g h : ℕ → History) (lo first hi : ℕ) → lo ≤ first → second ≤ hi → AreOldRuns net g lo hi lists → GoBySections net was.tracks.items
+      → GoThrough was.cut was.tracks.items → AreTracked net g h lo first second was.tracks.items
+      → IsSecond (λ v ps. is_supplied net ps v) was.cut.device g h second (moment_of net was.cut.second was.positions.items entries)
+      → AreTracked net g h lo first (second + 1) now.tracks.items

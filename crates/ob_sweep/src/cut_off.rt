@@ -68,6 +68,13 @@ impl CutOff {
         })
     }
 
+    /// The second as of which devices are in service.
+    pub fn second(&self) -> Second
+        ensures { result ≡ self.now.second }
+    {
+        self.second
+    }
+
     /// The nodes that are supplied through the device alone.
     pub fn nodes(&self) -> &[u16]
         ensures nodes { result.now ≡ nodes_through self.now.cut self.now.tracer.found }
