@@ -49,7 +49,8 @@ impl Differences {
         ensures searches { net.new.searches ≤ net.old.searches + length entries.now }
     {
         if self.cut.any_alters(net, entries) {
-            return self.take_second(alloc, net, old, entries, second, end);
+            self.take_second(alloc, net, old, entries, second, end)?;
+            return Ok(());
         }
         self.pass(net, entries);
         Ok(())

@@ -1,4 +1,3 @@
-use Rattle.ob_sweep.proofs.Gone
 use Rattle.ob_sweep.proofs.OneDevice.{difference_law, stretch_law}
 use Rattle.ob_sweep.proofs.difference.difference_law.Goals as goal
 
