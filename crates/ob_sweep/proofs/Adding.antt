@@ -36,9 +36,9 @@ module _ (nodes taken : List ℕ) (supplied : List Bool) (cutters : List (Option
         count = h.count;
         listed = λ v e there. elim (cases_eq v x) as (λ _. (k : ℕ) × (k < length nodes) × (get_or nodes k 0 ≡ v)
             × IsAdded v second (get_or supplied k false) (get_or cutters k None) (get_or was v e) (get_or now v e)) [
-          | inl here ↦ h.listed v e (ap (is_among taken) here ∙ among)
-          | inr ne ↦ h.listed v e (sym (among_before taken x v (λ q. ne (sym q))) ∙ there)
-        ];
+              | inl here ↦ h.listed v e (ap (is_among taken) here ∙ among)
+              | inr ne ↦ h.listed v e (sym (among_before taken x v (λ q. ne (sym q))) ∙ there)
+            ];
         others = λ v e none. elim (cases_eq v x) as (λ _. get_or now v e ≡ get_or was v e) [
           | inl here ↦ absurd (false≢true (sym none ∙ among_last taken x v (sym here)))
           | inr ne ↦ h.others v e (sym (among_before taken x v (λ q. ne (sym q))) ∙ none)
@@ -63,22 +63,22 @@ module _ (nodes taken : List ℕ) (supplied : List Bool) (cutters : List (Option
           count = length-set now x new ∙ h.count;
           listed = λ v e there. elim (cases_eq v x) as (λ _. (k : ℕ) × (k < length nodes) × (get_or nodes k 0 ≡ v)
               × IsAdded v second (get_or supplied k false) (get_or cutters k None) (get_or was v e) (get_or (set now x new) v e)) [
-            | inl here ↦ (
-              i,
-              l,
-              is ∙ sym here,
-              subst (λ (n : ℕ). IsAdded n second (get_or supplied i false) (get_or cutters i None) (get_or was n e) (get_or (set now x new) n e)) (sym here)
-                  (subst (λ (y : Track). IsAdded x second (get_or supplied i false) (get_or cutters i None) (get_or was x e) y) (sym (get_or-set_same now x new e within))
-                  (subst (λ (y : Track). IsAdded x second (get_or supplied i false) (get_or cutters i None) y new) (at e ∙ h.others x e not_yet) added)),
-            )
-            | inr ne ↦
-                let old = h.listed v e (sym (among_before taken x v (λ q. ne (sym q))) ∙ there) in (
-                  old.0,
-                  old.1,
-                  old.2,
-                  subst (λ (y : Track). IsAdded v second (get_or supplied old.0 false) (get_or cutters old.0 None) (get_or was v e) y) (sym (get_or-set_other now x v new e ne)) old.3,
+                | inl here ↦ (
+                  i,
+                  l,
+                  is ∙ sym here,
+                  subst (λ (n : ℕ). IsAdded n second (get_or supplied i false) (get_or cutters i None) (get_or was n e) (get_or (set now x new) n e)) (sym here)
+                      (subst (λ (y : Track). IsAdded x second (get_or supplied i false) (get_or cutters i None) (get_or was x e) y) (sym (get_or-set_same now x new e within))
+                      (subst (λ (y : Track). IsAdded x second (get_or supplied i false) (get_or cutters i None) y new) (at e ∙ h.others x e not_yet) added)),
                 )
-          ];
+                | inr ne ↦
+                    let old = h.listed v e (sym (among_before taken x v (λ q. ne (sym q))) ∙ there) in (
+                      old.0,
+                      old.1,
+                      old.2,
+                      subst (λ (y : Track). IsAdded v second (get_or supplied old.0 false) (get_or cutters old.0 None) (get_or was v e) y) (sym (get_or-set_other now x v new e ne)) old.3,
+                    )
+              ];
           others = λ v e none. elim (cases_eq v x) as (λ _. get_or (set now x new) v e ≡ get_or was v e) [
             | inl here ↦ absurd (false≢true (sym none ∙ among_last taken x v (sym here)))
             | inr ne ↦ get_or-set_other now x v new e ne ∙ h.others v e (sym (among_before taken x v (λ q. ne (sym q))) ∙ none)

@@ -96,17 +96,10 @@ impl Differences {
     {
         let nodes = self.cut.take_all(alloc, net, entries)?;
         reach_each(alloc, &mut self.tracks, &nodes, old, second)?;
-        let (supplied, cutters) =
-            self.cut
-                .look(alloc, net, &mut self.positions, &nodes, entries)?;
-        add_each(
-            &mut self.tracks,
-            &nodes,
-            &supplied,
-            &cutters,
-            second,
-            end,
-        )?;
+        let (supplied, cutters) = self
+            .cut
+            .look(alloc, net, &mut self.positions, &nodes, entries)?;
+        add_each(&mut self.tracks, &nodes, &supplied, &cutters, second, end)?;
         let source = self.cut.source();
         set_sources(&mut self.tracks, self.cut.nodes(), source);
         Ok(())
