@@ -2,7 +2,7 @@
 --     cut_off_supply, joined_supply      which nodes are supplied where the device is open, and where it is closed
 --     stays_cut_off, stays_joined        for which other positions the same holds
 --     cut_off_found, joined_found        what a search by the numbers of the devices' ends found
-use Rattle.std.proofs.Common.{◌≡◌, ◌≢◌, ◌<◌, ◌&&◌, ◌||◌, ◌⊎◌, ℕ, zero, suc, Bool, true, false, cond, List, [], ◌∷◌, length, get_or, set, refl, sym, ap, subst, ◌∙◌, inl, inr, arith, true≢false, get_or-set_other}
+use Rattle.std.proofs.Common.{◌≡◌, ◌<◌, ◌&&◌, ◌||◌, ◌⊎◌, ℕ, zero, suc, Bool, true, false, cond, List, [], ◌∷◌, length, get_or, set, refl, sym, ap, subst, ◌∙◌, inl, inr, arith, true≢false, get_or-set_other}
 use Rattle.std.specs.List.{AllByRecursion, filter}
 use Rattle.std.proofs.lemmas.Bool.{cases_Bool, cases_eq, cases_lt, cond-true, cond-false}
 use Rattle.std.proofs.lemmas.List.{get_or-map, get_or_default, get_or_past, length-map}
@@ -17,7 +17,7 @@ use Rattle.ob_net.specs.Joints.{IsAlikeWithin, IsClosedAt, ends_at, ends_of}
 use Rattle.ob_net.specs.Network.{Network}
 use Rattle.ob_net.specs.Nodes.{is_among}
 use Rattle.ob_net.specs.Traces.{AreConnectedWithin, IsPartWithout}
-use Rattle.ob_net.specs.Walk.{closed_among, has_ends, is_connected, is_supplied}
+use Rattle.ob_net.specs.Walk.{closed_among, is_connected, is_supplied}
 use Rattle.ob_net.proofs.Chains.{device_pair}
 use Rattle.ob_net.proofs.Components.{both_true}
 use Rattle.ob_net.proofs.Connected.{connected_same, connected_to, ends_decided}

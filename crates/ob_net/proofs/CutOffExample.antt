@@ -1,6 +1,6 @@
 -- What a device cuts off, worked by hand: B1 joins GRID to S1, D joins S1 to S2, E joins S2 to S3, and the tie T joins S3 to GRID. The
 -- four are closed, but for T, which is open at first. Then D cuts off S2 and S3; once T is closed, it cuts nothing off.
-use Rattle.std.proofs.Common.{◌≡◌, ℕ, ◌==◌, ◌||◌, List, [], ◌∷◌, refl, None, Some, Bool, true, false, codes, map}
+use Rattle.std.proofs.Common.{◌≡◌, ℕ, ◌==◌, ◌||◌, List, [], ◌∷◌, refl, None, Some, true, false, codes, map}
 use Rattle.ob_base.specs.declared.Pos.{Pos}
 use Rattle.ob_base.specs.declared.Pos.TheVariants.{Opened, Closed}
 use Rattle.ob_net.specs.CutOff.{other_closed, other_closed_within}
