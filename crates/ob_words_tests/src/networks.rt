@@ -114,6 +114,7 @@ fn nodes_and_devices(rt: HostRuntime) -> Result<(), Fail> {
         (b"S4", None, None),
     ];
     has_parts(&rt, &net, parts)?;
+    assert!(rt; net.nodes_of(1) == (2, 0));
     let Node { name, feeder } = grid();
     assert!(rt; name.bytes() == b"GRID".as_slice() && feeder == None);
     Ok(())
