@@ -184,7 +184,8 @@ explored_more ends positions start old new next l longer followed same wide h = 
   ];
 }
 
-both_true : {x y : Bool} → (x ≡ true → y ≡ true) → (y ≡ true → x ≡ true) → x ≡ y
+-- two tests that hold together are one
+pub both_true : {x y : Bool} → (x ≡ true → y ≡ true) → (y ≡ true → x ≡ true) → x ≡ y
 both_true {x} {y} f g = elim (cases_Bool x) [
   | inl t ↦ t ∙ sym (f t)
   | inr n ↦ elim (cases_Bool y) [ inl t ↦ g t ∙ sym t | inr m ↦ n ∙ sym m ]

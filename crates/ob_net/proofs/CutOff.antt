@@ -2,7 +2,7 @@
 --     cut_off_supply, joined_supply      which nodes are supplied where the device is open, and where it is closed
 --     stays_cut_off, stays_joined        for which other positions the same holds
 --     cut_off_found, joined_found        what a search by the numbers of the devices' ends found
-use Rattle.std.proofs.Common.{◌≡◌, ◌≢◌, ◌<◌, ◌&&◌, ◌||◌, ◌⊎◌, ℕ, zero, suc, Bool, true, false, cond, List, [], ◌∷◌, length, get_or, set, refl, sym, ap, subst, ◌∙◌, inl, inr, arith, true≢false, get_or-set_other}
+use Rattle.std.proofs.Common.{◌≡◌, ◌<◌, ◌&&◌, ◌||◌, ◌⊎◌, ℕ, zero, suc, Bool, true, false, cond, List, [], ◌∷◌, length, get_or, set, refl, sym, ap, subst, ◌∙◌, inl, inr, arith, true≢false, get_or-set_other}
 use Rattle.std.specs.List.{AllByRecursion, filter}
 use Rattle.std.proofs.lemmas.Bool.{cases_Bool, cases_eq, cases_lt, cond-true, cond-false}
 use Rattle.std.proofs.lemmas.List.{get_or-map, get_or_default, get_or_past, length-map}
@@ -17,8 +17,9 @@ use Rattle.ob_net.specs.Joints.{IsAlikeWithin, IsClosedAt, ends_at, ends_of}
 use Rattle.ob_net.specs.Network.{Network}
 use Rattle.ob_net.specs.Nodes.{is_among}
 use Rattle.ob_net.specs.Traces.{AreConnectedWithin, IsPartWithout}
-use Rattle.ob_net.specs.Walk.{closed_among, has_ends, is_connected, is_supplied}
+use Rattle.ob_net.specs.Walk.{closed_among, is_connected, is_supplied}
 use Rattle.ob_net.proofs.Chains.{device_pair}
+use Rattle.ob_net.proofs.Components.{both_true}
 use Rattle.ob_net.proofs.Connected.{connected_same, connected_to, ends_decided}
 use Rattle.ob_net.proofs.Forests.{closed_each, each_closed}
 use Rattle.ob_net.proofs.Searched.{node_alike}
@@ -84,12 +85,6 @@ more_closed Q ds ps d here h k l c =
       | inr ne ↦ h k l (other_position ps d k Closed Opened ne c)
     ]
 
-both_ways : {x y : Bool} → (x ≡ true → y ≡ true) → (y ≡ true → x ≡ true) → x ≡ y
-both_ways {x} {y} f g = elim (cases_Bool x) [
-  | inl t ↦ t ∙ sym (f t)
-  | inr n ↦ elim (cases_Bool y) [ inl t ↦ g t ∙ sym t | inr m ↦ n ∙ sym m ]
-]
-
 -- a node that is supplied where the device is open is so where it is closed
 supplied_more : (net : Network) (ps : List Pos) (d v : ℕ) → is_supplied net (set ps d Opened) v ≡ true → is_supplied net (set ps d Closed) v ≡ true
 supplied_more net ps d v s =
@@ -148,7 +143,7 @@ module _ (net : Network) (ps : List Pos) (d x y : ℕ) (has : ℕ → Bool) (cut
 
   outside_same : (v : ℕ) → has v ≡ false → when_open v ≡ when_closed v
   outside_same v f =
-      both_ways (supplied_more net ps d v)
+      both_true (supplied_more net ps d v)
       (λ s. sym (cond-false (has v) (when_open x) (when_open v) f) ∙ supplied_less v s)
 
   apart_ends : (device_at net.devices d).a ≡ (device_at net.devices d).b → ⊥
@@ -236,7 +231,7 @@ module _ (net : Network) (ps qs : List Pos) (d x y : ℕ) (has : ℕ → Bool) (
   still_each : (v : ℕ) → has v ≡ is_connected (other_closed net qs d) v y
   still_each v =
       let end : has y ≡ true = has_end net ps d x y has cut in
-      both_ways
+      both_true
       (λ t.
       sym (cond-true (has v) (is_connected (other_closed net qs d) v y) false t)
       ∙ same_by still (other_closed net ps d) v y (over_list (SameAtEnds still) net.devices (set ps d Opened) still_connected) (sym (cut.each v) ∙ t)
@@ -263,7 +258,7 @@ joined_supply net ps d has v joined =
     connected_same supplied (other_closed_within net ps d has)
     (All-filter (is_within has) (SameAtEnds supplied) (other_closed net ps d) (All-from_recursion (SameAtEnds supplied) (other_closed net ps d) (over_list (SameAtEnds supplied) net.devices (set ps d Opened) same)))
     e.a e.b joined in
-    both_ways (supplied_more net ps d v)
+    both_true (supplied_more net ps d v)
     (λ s. by_supply net (set ps d Closed) supplied v (more_closed (SameAtEnds supplied) net.devices ps d ends same) s ∙ grid_supplied net (set ps d Opened))
 
 -- over the elements that pass a test
@@ -346,10 +341,10 @@ joined_found net ps d nodes l h =
     let n : k < length net.devices = omega (arith, m, long) in
     let is = ends_of_device net.devices k n in
     let both : is_within has (device_at net.devices k) ≡ true =
-    both_true (has (device_at net.devices k).a) (has (device_at net.devices k).b) (ap (λ (p : ℕ × ℕ). has p.0) (sym is) ∙ one) (ap (λ (p : ℕ × ℕ). has p.1) (sym is) ∙ other) in
+    true_and (has (device_at net.devices k).a) (has (device_at net.devices k).b) (ap (λ (p : ℕ × ℕ). has p.0) (sym is) ∙ one) (ap (λ (p : ℕ × ℕ). has p.1) (sym is) ∙ other) in
     subst (λ (p : ℕ × ℕ). test p.0 ≡ test p.1) (sym is) (within_same net ps d has b k n c both) in
     subst (λ (p : ℕ × ℕ). test p.0 ≡ test p.1) (ends_of_device net.devices d l) (h test alike) ∙ connected_to now b b refl
   where
-    both_true : (x y : Bool) → x ≡ true → y ≡ true → (x && y) ≡ true
-    both_true true y s t = t
-    both_true false y s t = absurd (true≢false (sym s))
+    true_and : (x y : Bool) → x ≡ true → y ≡ true → (x && y) ≡ true
+    true_and true y s t = t
+    true_and false y s t = absurd (true≢false (sym s))

@@ -4,9 +4,9 @@ use Rattle.std.proofs.lemmas.Bool.{cases_Bool, cases_eq}
 use Rattle.std.proofs.lemmas.Grind.{get_or-set_at}
 use Rattle.std.proofs.lemmas.List.{get_or-map, get_or_default, length-map, same_lists}
 use Rattle.ob_base.specs.declared.Pos.{Pos}
-use Rattle.ob_net.specs.Joints.{AreSame, IsAlikeOver, IsAlikeWithin, IsComponent, IsExplored, ends_at}
+use Rattle.ob_net.specs.Joints.{AreSame, IsAlikeWithin, IsComponent, IsExplored, ends_at}
 use Rattle.ob_net.specs.Nodes.{NodeList, is_among}
-use Rattle.ob_net.specs.Traces.{AreConnectedWithin, AreTold, IsPartWithout}
+use Rattle.ob_net.specs.Traces.{AreConnectedWithin, AreTold}
 use Rattle.ob_net.proofs.Components.{same_among}
 
 -- what is the same between more nodes is so between fewer

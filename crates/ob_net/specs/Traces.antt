@@ -1,8 +1,7 @@
 -- Following closed devices from single nodes, as it is kept ready while positions change.
-use Rattle.std.specs.Prelude.{◌≡◌, ◌<◌, ℕ, Bool, IsTrue, List, false, true, length}
-use Rattle.std.specs.List.{All}
+use Rattle.std.specs.Prelude.{◌≡◌, ◌<◌, ℕ, Bool, IsTrue, List, false, length}
 use Rattle.ob_base.specs.declared.Pos.{Pos}
-use Rattle.ob_net.specs.Joints.{DeviceEnds, IsAlikeWithin, IsComponent, ends_at, ends_of}
+use Rattle.ob_net.specs.Joints.{DeviceEnds, IsAlikeWithin, IsComponent, ends_of}
 use Rattle.ob_net.specs.Network.{Network}
 use Rattle.ob_net.specs.Nodes.{NodeList, is_among}
 

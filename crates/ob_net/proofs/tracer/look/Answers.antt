@@ -1,10 +1,10 @@
-use Rattle.std.proofs.Common.{◌≡◌, ℕ, List, Bool, true, false, ap, sym, subst, inl, inr, ◌∙◌, true≢false}
+use Rattle.std.proofs.Common.{◌≡◌, ℕ, List, true, false, ap, sym, subst, inl, inr, ◌∙◌, true≢false}
 use Rattle.ob_base.specs.declared.Pos.{Pos}
-use Rattle.ob_net.specs.Joints.{IsExplored, ends_at}
+use Rattle.ob_net.specs.Joints.{IsExplored}
 use Rattle.ob_net.specs.Nodes.{is_among}
 use Rattle.ob_net.specs.Traces.{AreConnectedWithin, IsPartWithout}
 use Rattle.ob_net.proofs.Switched.{alone_explored}
-use Rattle.ob_net.proofs.Tracing.{AreFrom, both_found, from_either, grid_found, other_has_grid}
+use Rattle.ob_net.proofs.Tracing.{both_found, from_either, grid_found, other_has_grid}
 use Rattle.ob_net.proofs.tracer.look.Goals.{then-has, else-has}
 use Rattle.ob_net.proofs.tracer.look.Goals as goal
 

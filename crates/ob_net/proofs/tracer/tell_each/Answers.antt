@@ -1,4 +1,4 @@
-use Rattle.std.proofs.Common.{ℕ, ◌<◌, List, Bool, length, arith, ◌∙◌}
+use Rattle.std.proofs.Common.{◌<◌, List, Bool, length, arith, ◌∙◌}
 use Rattle.ob_net.proofs.Tracing.{told_all, told_more}
 use Rattle.ob_net.proofs.tracer.tell_each.Goals as goal
 

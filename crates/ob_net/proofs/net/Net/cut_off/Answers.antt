@@ -1,7 +1,7 @@
-use Rattle.std.proofs.Common.{◌≡◌, ℕ, ◌⊎◌, List, IfSome, Option, None, Some, length, set, sym, subst}
+use Rattle.std.proofs.Common.{◌≡◌, ℕ, ◌⊎◌, List, IfSome, Option, None, Some, set, subst}
 use Rattle.ob_base.specs.declared.Pos.{Pos}
 use Rattle.ob_base.specs.declared.Pos.TheVariants.{Opened}
-use Rattle.ob_net.specs.Joints.{ends_at, ends_of}
+use Rattle.ob_net.specs.Joints.{ends_at}
 use Rattle.ob_net.specs.Network.{Network}
 use Rattle.ob_net.specs.Traces.{AreConnectedWithin, IsPartWithout}
 use Rattle.ob_net.proofs.CutOff.{cut_off_found, joined_found}
