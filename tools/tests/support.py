@@ -111,16 +111,23 @@ def opened(made: Made) -> Checked:
     return stack.enter_context(open_book(str(made.book), str(made.table)))
 
 
-def stand_in() -> Path:
-    """A folder in which made_program.py is the program."""
+def on_path() -> Path:
+    """A folder in which tools find a program: the built one; made_program.py where there is none, and of a book that it refuses to
+    read, as one with a changed row."""
     path = folder() / "bin" / "outagebook"
     path.parent.mkdir()
-    path.write_text(f'#!/bin/sh\nexec "{sys.executable}" -ES "{TESTS}/made_program.py" "$@"\n')
+    lines = ["#!/bin/sh"]
+    if PROGRAM.exists():
+        program = f'"{PROGRAM.resolve()}" "$@"'
+        lines.append(f"case $1 in table | indices | interruptions) ;; *) exec {program} ;; esac")
+        lines.append(f"if said=$({program} 2>/dev/null); then printf '%s\\n' \"$said\" && exit; fi")
+    lines.append(f'exec "{sys.executable}" -ES "{TESTS}/made_program.py" "$@"')
+    path.write_text("".join(f"{line}\n" for line in lines))
     path.chmod(0o755)
     return path.parent
 
 
-os.environ["PATH"] = f"{stand_in()}:{os.environ['PATH']}"  # tools run it where a test names no program
+os.environ["PATH"] = f"{on_path()}:{os.environ['PATH']}"  # tools run it where a test names no program
 
 
 def fortnight() -> Made:
