@@ -1,12 +1,15 @@
 //! What a change of one device that joins two sections alters in the outage intervals.
-ghost use Rattle.std.specs.Prelude.{◌≡◌, ◌<◌, ◌≤◌, ◌+◌, ℕ, IfErr, IfOk, length, map};
+ghost use Rattle.std.specs.Prelude.{◌≡◌, ◌<◌, ◌≤◌, ◌+◌, ℕ, IfErr, IfOk, IsTrue, Some, [], false, length, map, slice_index_or};
 ghost use Rattle.std.specs.List.{All, AllPairs};
 ghost use Rattle.ob_base.specs.Stop.{out_of_memory};
+ghost use Rattle.ob_net.specs.Nodes.{is_among};
+ghost use Rattle.ob_net.specs.Reach.{is_reached};
 ghost use Rattle.ob_sheet.specs.Sheet.{NameDevices};
 ghost use Rattle.ob_sweep.specs.Deltas.{Fits, IsDelta};
 ghost use Rattle.ob_sweep.specs.OneChange.{IsOneChange, JoinsSections};
 ghost use Rattle.ob_sweep.specs.Runs.{runs_between};
 ghost use Rattle.ob_sweep.specs.Timeline.{AreOfNode, runs_at};
+ghost use Rattle.ob_sweep.specs.declared.track.Track.{Track as ATrack};
 
 use crate::difference::tracks_of;
 use crate::track::{Track, reach_each};
@@ -15,6 +18,56 @@ use ob_base::{Pos, Second, Stop};
 use ob_net::Net;
 use ob_sheet::Entry;
 use std::alloc::{AllocError, Global};
+
+/// The nodes whose outage intervals don't stay the old ones by what was found, and for each node
+/// whether it is one of them.
+fn tracked_nodes(
+    alloc: Global,
+    tracks: &[Track],
+    first: Second,
+) -> Result<(Vec<u16>, Vec<bool>), AllocError>
+    requires { length tracks.now ≤ 65_536 }
+    ensures nodes { IfOk result (λ r. All (λ v. v < length tracks.now) r.0.items) }
+    ensures count { IfOk result (λ r. length r.1.items ≡ length tracks.now) }
+    ensures marked { IfOk result (λ r. (v : ℕ) → IsTrue (is_reached r.1.items v)
+        → IsTrue (is_among r.0.items v)) }
+    ensures others { IfOk result (λ r. (v : ℕ) (d : ATrack) → v < length tracks.now
+        → is_reached r.1.items v ≡ false → ((slice_index_or tracks.now v d).runs.items ≡ [])
+        × ((slice_index_or tracks.now v d).reached ≡ first)
+        × ((slice_index_or tracks.now v d).source ≡ Some v)) }
+{
+    let mut nodes = Vec::new(alloc);
+    let mut marks = Vec::with_capacity(alloc, tracks.len())?;
+    for place in 0..tracks.len() {
+        let node = place as u16;
+        let is_marked = !is_untouched(&tracks[place], node, first);
+        if is_marked {
+            nodes.push(node)?;
+        }
+        marks.push(is_marked)?;
+    }
+    Ok((nodes, marks))
+}
+
+/// Whether nothing was found of a node's outage intervals, and it goes by its own old ones.
+fn is_untouched(track: &Track, node: u16, first: Second) -> bool
+    ensures { IsTrue result → (track.now.runs.items ≡ []) × (track.now.reached ≡ first)
+        × (track.now.source ≡ Some node) }
+{
+    track.reached == first && track.source == Some(node) && track.runs.is_empty()
+}
+
+/// The outage intervals of each node that were found.
+fn into_lists(alloc: Global, tracks: Vec<Track>) -> Result<Vec<Vec<Run>>, AllocError>
+    ensures { IfOk result (λ lists. map (λ l. l.items) lists.items
+        ≡ map (λ t. t.runs.items) tracks.items) }
+{
+    let mut lists = Vec::with_capacity(alloc, tracks.len())?;
+    for track in tracks {
+        lists.push(track.runs)?;
+    }
+    Ok(lists)
+}
 
 /// What a change of one device alters in the outage intervals, where it alters the positions from
 /// `first` up to `end` alone. The device joins two sections; the devices have these positions just
