@@ -6,6 +6,7 @@ use Rattle.std.proofs.lemmas.List.Elements.{All-drop, All-same, All-take, All-we
 use Rattle.ob_base.specs.declared.Pos.{Pos}
 use Rattle.ob_net.specs.Network.{Network}
 use Rattle.ob_sheet.specs.declared.Entry.{Entry}
+use Rattle.ob_sweep.specs.OneChange.{JoinsSections}
 use Rattle.ob_sweep.specs.States.{IsGone, IsState}
 use Rattle.ob_sweep.specs.declared.Run.{Run}
 use Rattle.ob_sweep.specs.declared.difference.Differences.{Differences}
@@ -158,3 +159,10 @@ returns-clause-tracked c =
     let lists : List (List Run) = map (λ q. q.items) c.args.old.now in
     let h = c.loop-place.invariant in λ change.
     gone_whole net c.args.self.now.cut.device c.args.first c.args.end c.args.self.now.positions.items entries lists c.loop-place.place c.loop-place.self h.state h.gone c.loop-place-test.false change
+
+pub returns-clause-sections : goal.returns-clause-sections
+returns-clause-sections c =
+    let net : Network = c.args.net.now.network in
+    let now : Differences = c.loop-place.self in
+    let h = c.loop-place.invariant in
+    by_sections net now.cut now.tracks.items h.state.of (subst (JoinsSections net) (sym h.gone.device_is) c.requires.ends) h.gone.through
