@@ -1,5 +1,5 @@
 -- The seconds of a window's entries, from three parts of them: those before a second, its own and those after it.
-use Rattle.std.proofs.Common.{◌≡◌, ◌==◌, nat_lt, ℕ, ◌<◌, ◌≤◌, ◌+◌, Bool, true, false, List, [], ◌∷◌, ◌++◌, refl, sym, ◌∙◌, ap, arith, subst, length, take, drop}
+use Rattle.std.proofs.Common.{◌≡◌, ◌==◌, nat_lt, ℕ, ◌<◌, Bool, true, false, List, [], ◌∷◌, ◌++◌, refl, sym, ◌∙◌, ap, arith, take, drop}
 use Rattle.std.specs.List.{All, filter}
 use Rattle.std.proofs.lemmas.Bool.{cond-false, cond-true, eq-eqb, le-ltb, lt-ltb, ne_eqb}
 use Rattle.std.proofs.lemmas.List.{append-nil, take-append-drop}
@@ -8,7 +8,6 @@ use Rattle.ob_base.specs.declared.Pos.{Pos}
 use Rattle.ob_net.specs.Network.{Network}
 use Rattle.ob_sheet.specs.declared.Entry.{Entry}
 use Rattle.ob_sweep.specs.Acting.{moment_at, moment_of, moved_all}
-use Rattle.ob_sweep.specs.Moments.{Moment}
 use Rattle.ob_sweep.proofs.Acted.{earlier_ones, its_own}
 
 keeps_none : (p : Entry → Bool) (es : List Entry) → All (λ e. p e ≡ false) es → filter p es ≡ []

@@ -1,5 +1,5 @@
 -- The tracks of all nodes as the entries of a window are taken, second by second.
-use Rattle.std.proofs.Common.{◌≡◌, ◌==◌, ◌&&◌, ◌+◌, ◌-◌, ◌<◌, ◌≤◌, ℕ, zero, suc, inl, inr, Bool, IsTrue, true, false, cond, List, [], ◌∷◌, ◌++◌, Option, None, Some, refl, sym, ◌∙◌, ap, subst, arith, length, get_or, take, drop}
+use Rattle.std.proofs.Common.{◌≡◌, ◌==◌, ◌&&◌, ◌+◌, ◌-◌, ◌<◌, ◌≤◌, ℕ, zero, suc, inl, inr, Bool, true, cond, List, [], ◌∷◌, ◌++◌, Option, None, Some, refl, sym, ◌∙◌, ap, subst, arith, length, get_or, take, drop}
 use Rattle.std.specs.List.{All}
 use Rattle.std.proofs.lemmas.Bool.{and_parts, cases_Bool, cond-false, cond-true, eqb-true, false≢true, or_cases}
 use Rattle.std.proofs.lemmas.List.{drop_all, take-append-drop}
@@ -16,13 +16,11 @@ use Rattle.ob_net.specs.declared.tracer.CutEnd.{CutEnd}
 use Rattle.ob_sheet.specs.declared.Entry.{Entry}
 use Rattle.ob_sweep.specs.Acting.{moment_at, moment_of, moved, moved_all}
 use Rattle.ob_sweep.specs.CutOffs.{GoOwnOutside, GoThrough, HasFound, IsCut, nodes_through, other_end}
-use Rattle.ob_sweep.specs.Differences.{Supplies}
 use Rattle.ob_sweep.specs.Moments.{Moment}
 use Rattle.ob_sweep.specs.OneChange.{IsFirst, IsOneChange, JoinsSections}
-use Rattle.ob_sweep.specs.Runs.{History}
 use Rattle.ob_sweep.specs.States.{IsGone, IsState, IsTaken}
 use Rattle.ob_sweep.specs.Timeline.{IsSection}
-use Rattle.ob_sweep.specs.Tracks.{AreTracked, GoBySections, IsSecond, IsTracked, IsTrackedBy, goes_by, goes_through}
+use Rattle.ob_sweep.specs.Tracks.{AreTracked, GoBySections, IsSecond, IsTracked, goes_through}
 use Rattle.ob_sweep.specs.declared.Run.{Run}
 use Rattle.ob_sweep.specs.declared.cut_off.CutOff.{CutOff}
 use Rattle.ob_sweep.specs.declared.difference.Differences.{Differences}
@@ -31,7 +29,7 @@ use Rattle.ob_sweep.proofs.Passed.{second_passed}
 use Rattle.ob_sweep.proofs.Tracked.{tracked_first}
 use Rattle.ob_sweep.proofs.WindowMoments.{moment_of_none, moment_of_parts}
 
--- the other end of a device that joins two sections is one of them
+-- either end of a device that joins two sections is a section
 end_section : (net : Network) (x y : ℕ) (d : Device) → has_ends x y d ≡ true → IsSection net d.a → IsSection net d.b → IsSection net x
 end_section net x y d ends a b =
     elim (or_cases (d.a == x && d.b == y) (d.a == y && d.b == x) ends) as (λ _. IsSection net x) [
@@ -39,6 +37,7 @@ end_section net x y d ends a b =
       | inr p ↦ subst (IsSection net) (eqb-true d.b x (and_parts (d.a == y) (d.b == x) p).1) b
     ]
 
+-- what the nodes that are supplied through it go by is a section
 through_section : (net : Network) (ps : List Pos) (device : ℕ) (cut : Option CutEnd) (found : List ℕ) (v w : ℕ) (pos : Pos) → HasFound net ps device cut found → JoinsSections net device
     → is_among (nodes_through cut found) v ≡ true → cond (is_closed pos) (Some (other_end cut)) None ≡ Some w → IsSection net w
 through_section net ps device (Some cut) found v w Closed h joins among is =
@@ -63,6 +62,7 @@ by_sections net c tracks of joins goes v w d l section is =
 pub own_sections : (net : Network) (device first : ℕ) (positions : List Pos) (x : Differences) → IsFirst device first positions x → GoBySections net x.tracks.items
 own_sections net device first positions x h v w d l section is = subst (IsSection net) (same_Some v w (sym (h.own v d l).2 ∙ is)) section
 
+-- and its track holds up to the first second
 own_tracked : (net : Network) (device first end : ℕ) (positions : List Pos) (entries : List Entry) (lists : List (List Run)) (x : Differences) → IsFirst device first positions x
     → (change : IsOneChange net device first end positions entries lists) → AreTracked net change.old change.new change.lo first first x.tracks.items
 own_tracked net device first end positions entries lists x h change v d l section =
@@ -74,6 +74,7 @@ own_tracked net device first end positions entries lists x h change v d l sectio
     (subst (λ (n : ℕ). IsTracked change.old change.new change.lo first first v y.runs.items n (Some v)) (sym own.1)
     (subst (λ (rs : List Run). IsTracked change.old change.new change.lo first first v rs first (Some v)) (sym own.0) found))
 
+-- the positions after some entries and more of them
 moved_on : (net : Network) (t : ℕ) (ps : List Pos) (xs ys : List Entry) → moved_all net t ps (xs ++ ys) ≡ moved_all net t (moved_all net t ps xs) ys
 moved_on net t ps [] ys = refl
 moved_on net t ps (x ∷ xs) ys = moved_on net t (moved net t ps x) xs ys
