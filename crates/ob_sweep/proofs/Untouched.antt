@@ -1,8 +1,8 @@
 -- The nodes of which something was found, told apart from the others one after another.
-use Rattle.std.proofs.Common.{◌≡◌, ◌+◌, ◌<◌, ◌≤◌, ◌-◌, ℕ, inl, inr, Bool, IsTrue, true, false, List, [], ◌∷◌, ◌++◌, Option, Some, refl, sym, ◌∙◌, ap, subst, arith, length, get_or}
+use Rattle.std.proofs.Common.{◌≡◌, ◌+◌, ◌<◌, ℕ, inl, inr, Bool, IsTrue, true, false, List, [], ◌∷◌, ◌++◌, Some, refl, sym, ◌∙◌, ap, subst, arith, length, get_or}
 use Rattle.std.specs.List.{All}
 use Rattle.std.proofs.lemmas.Bool.{cases_eq, cases_lt, false≢true}
-use Rattle.std.proofs.lemmas.List.{get_or-append_right, get_or_append_left, get_or_past, get_or_push, length_push}
+use Rattle.std.proofs.lemmas.List.{get_or_append_left, get_or_past, get_or_push, length_push}
 use Rattle.std.proofs.lemmas.List.Elements.{All-push}
 use Rattle.ob_net.proofs.Nodes.{among_before, among_last}
 use Rattle.ob_net.specs.Nodes.{is_among}
@@ -52,10 +52,10 @@ module _ (tracks : List Track) (first k : ℕ) (nodes : List ℕ) (marks : List 
             elim (cases_eq v k) as (λ _. IsTrue (is_among (nodes ++ k ∷ []) v)) [
               | inl e ↦ among_last nodes k v (sym e)
               | inr ne ↦ among_before nodes k v (λ e. ne (sym e)) ∙ h.marked v (
-                elim (cases_lt v k) as (λ _. IsTrue (is_reached marks v)) [
-                  | inl l ↦ sym (mark_before true v l) ∙ m
-                  | inr l ↦ absurd (false≢true (sym (mark_after true v (omega arith)) ∙ m))
-                ])
+                  elim (cases_lt v k) as (λ _. IsTrue (is_reached marks v)) [
+                    | inl l ↦ sym (mark_before true v l) ∙ m
+                    | inr l ↦ absurd (false≢true (sym (mark_after true v (omega arith)) ∙ m))
+                  ])
             ];
         others = λ v d l none.
             elim (cases_lt v k) as (λ _. IsUntouched first v (get_or tracks v d)) [
