@@ -1,5 +1,5 @@
 -- The window of a change whose device joins two sections, where no life begins or ends: what the change of one device is given.
-use Rattle.std.proofs.Common.{◌≡◌, ℕ, suc, ◌+◌, ◌-◌, ◌<◌, ◌≤◌, List, length, get_or, take, drop, sym, ◌∙◌, ap, arith, subst}
+use Rattle.std.proofs.Common.{◌≡◌, ℕ, ◌+◌, ◌-◌, ◌<◌, ◌≤◌, List, length, get_or, take, drop, sym, ◌∙◌, ap, arith, subst}
 use Rattle.std.specs.List.{AllPairs}
 use Rattle.ob_base.specs.declared.Pos.{Pos}
 use Rattle.ob_net.specs.Network.{Network}
@@ -43,6 +43,7 @@ module _ (entries : List Entry) (change : SheetChange) (lo end : ℕ) (numbered 
   module _ (front mid rest : List Entry) (framed : AreFramed entries a z front mid rest) (net : Network) (lists : List (List Run))
       (were : AreRuns net entries lo end lists) (names : NameDevices (length net.devices) entries) (names_after : NameDevices (length net.devices) (with_change change entries))
       (plain : IsPlain net (device_of change) a (z + 1)) where
+    -- one second of these histories, where the new positions are those that the steps give from some first ones on
     abbrev Second : ℕ → ℕ → ℕ → List Pos → List Entry → Type 0
     Second s device first given steps =
         IsSecond (λ v ps. is_supplied net ps v) device (before_change net) (after_change net) s (moment_at net first given steps s)
@@ -52,6 +53,7 @@ module _ (entries : List Entry) (change : SheetChange) (lo end : ℕ) (numbered 
         second_of_window entries change lo end numbered ok some lie lie_changed front mid rest framed net names names_after
         (λ t k n. plain.still t k (omega (arith, n))) s l m
 
+    -- the window as it is given: its device, its seconds, the positions before it and its steps are those of the change
     module _ (device first until : ℕ) (given : List Pos) (steps : List Entry) (of_it : device ≡ device_of change) (first_is : first ≡ a) (until_is : until ≡ z + 1)
         (given_are : given ≡ positions net front a) (steps_are : steps ≡ changed_order change mid) where
       second_given : (s : ℕ) → first ≤ s → s < until → Second s device first given steps

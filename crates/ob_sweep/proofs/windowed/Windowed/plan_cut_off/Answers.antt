@@ -1,6 +1,5 @@
 use Rattle.std.proofs.Common.{◌≡◌, ℕ, ◌≤◌, ◌<◌, IfOk, List, length, map, take, sym, ap, ◌∙◌, arith, subst}
 use Rattle.std.specs.List.{All, AllPairs}
-use Rattle.ob_net.specs.Network.{Network}
 use Rattle.ob_net.proofs.Lives.{length-as_of}
 use Rattle.ob_sheet.specs.declared.Entry.{Entry}
 use Rattle.ob_sheet.specs.Order.{in_order}
