@@ -6,12 +6,12 @@ ghost use Rattle.ob_net.specs.Nodes.{is_among};
 ghost use Rattle.ob_sweep.specs.Runs.{History};
 ghost use Rattle.ob_sweep.specs.Splice.{back, front, join};
 ghost use Rattle.ob_sweep.specs.Timeline.{AreOfNode, runs_at};
-ghost use Rattle.ob_sweep.specs.Tracks.{AreAdded, AreOldRuns, AreTracked, AreWithin, GoBySections, part_of};
+ghost use Rattle.ob_sweep.specs.Tracks.{AreAdded, AreOldRuns, AreTracked, AreWithin, GoBySections, cut_to, part_of};
 ghost use Rattle.ob_sweep.specs.declared.track.Track.{Track as ATrack};
 ghost use Rattle.ob_sweep.specs.declared.Run.{Run as ARun};
 
 use crate::Run;
-use crate::splice::{append_joined, places_touching, runs_before, runs_from};
+use crate::splice::{append_joined, places_touching};
 use ob_base::Second;
 use std::alloc::{AllocError, Global};
 
@@ -46,16 +46,29 @@ pub fn own_tracks(alloc: Global, nodes: u16, first: Second) -> Result<Vec<Track>
     Ok(tracks)
 }
 
-/// The same outage intervals as those of another section.
-fn with_section(alloc: Global, section: u16, runs: &[Run]) -> Result<Vec<Run>, AllocError>
-    ensures { IfOk result (λ own. own.items
-        ≡ map {A = ARun} (λ r. record r { section = section }) runs.now) }
+/// Outage intervals as far as they lie in the seconds from `first` up to `end`, as those of a
+/// section.
+fn cut_to(
+    alloc: Global,
+    section: u16,
+    runs: &[Run],
+    first: Second,
+    end: Second,
+) -> Result<Vec<Run>, AllocError>
+    ensures { IfOk result (λ part. part.items ≡ cut_to section first end runs.now) }
 {
-    let mut own = Vec::with_capacity(alloc, runs.len())?;
+    let mut part = Vec::with_capacity(alloc, runs.len())?;
     for run in runs {
-        own.push(Run { section, ..*run })?;
+        if first < run.until && run.since < end {
+            part.push(Run {
+                section,
+                since: run.since.max(first),
+                until: run.until.min(end),
+                cutter: run.cutter,
+            })?;
+        }
     }
-    Ok(own)
+    Ok(part)
 }
 
 /// The outage intervals of a section from one second up to another, out of those of another one. It
@@ -76,9 +89,7 @@ fn runs_of_source(
         return Ok(Vec::new(alloc));
     }
     let (from, to) = places_touching(runs, first, end);
-    let before = runs_before(alloc, &runs[from..to], end)?;
-    let part = runs_from(alloc, &before, first)?;
-    with_section(alloc, section, &part)
+    cut_to(alloc, section, &runs[from..to], first, end)
 }
 
 /// The outage intervals of a section from one second up to another, if it goes by the old intervals

@@ -1,7 +1,6 @@
-use Rattle.std.proofs.Common.{◌≡◌, ◌<◌, List, [], length, map, get_or, sym, ◌∙◌, ap, subst}
+use Rattle.std.proofs.Common.{◌≡◌, ◌<◌, [], length, map, get_or, sym, ◌∙◌, ap, subst}
 use Rattle.std.proofs.lemmas.List.{get_or-map}
 use Rattle.ob_sweep.specs.Timeline.{AreOfNode, runs_at}
-use Rattle.ob_sweep.specs.declared.Run.{Run}
 use Rattle.ob_sweep.proofs.track.part_of.Goals as goal
 
 pub runs_of_source-requires-clause-some : goal.runs_of_source-requires-clause-some
