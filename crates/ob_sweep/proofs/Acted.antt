@@ -1,9 +1,9 @@
 -- The history of a section at a second, from the positions as the entries of that second act one after another.
-use Rattle.std.proofs.Common.{◌≡◌, ◌≢◌, ◌==◌, ◌&&◌, nat_lt, nat_le, ℕ, zero, suc, ◌<◌, ◌≤◌, inl, inr, Bool, IsTrue, true, false, not, cond, List, [], ◌∷◌, ◌++◌, Option, Some, None, refl, sym, ◌∙◌, ap, arith, subst, append_assoc, length, map, slice_get}
+use Rattle.std.proofs.Common.{◌≡◌, ◌==◌, ◌&&◌, nat_lt, ℕ, suc, ◌<◌, ◌≤◌, inl, inr, Bool, true, false, not, cond, List, [], ◌∷◌, ◌++◌, Option, Some, None, refl, sym, ◌∙◌, ap, arith, subst, append_assoc, length, map}
 use Rattle.std.proofs.Math.ListN.{set}
 use Rattle.std.specs.List.{AllByRecursion, filter}
 use Rattle.std.specs.Option.{option_map, option_map_or, option_or}
-use Rattle.std.proofs.lemmas.Bool.{cases_Bool, cases_lt, cases_eq, cond-true, cond-false, eq-eqb, ne_eqb, lt-ltb, le-ltb, ltb-true, ltb-false, eqb-true}
+use Rattle.std.proofs.lemmas.Bool.{cases_Bool, cases_lt, cases_eq, cond-true, cond-false, eq-eqb, ne_eqb, lt-ltb, le-ltb, ltb-true, eqb-true}
 use Rattle.std.proofs.lemmas.List.{append-nil, length-map}
 use Rattle.std.proofs.lemmas.Option.{slice_get_cases}
 use Rattle.ob_base.specs.Life.{is_alive}
@@ -14,14 +14,14 @@ use Rattle.ob_net.specs.Network.{Network, as_of}
 use Rattle.ob_net.specs.Walk.{is_supplied}
 use Rattle.ob_sheet.proofs.Sorting.{IsBeforeEach, IsInOrder}
 use Rattle.ob_sheet.specs.declared.Entry.{Entry}
-use Rattle.ob_sheet.specs.Order.{greatest, is_before, upto}
-use Rattle.ob_sheet.specs.Positions.{entered, positions}
+use Rattle.ob_sheet.specs.Order.{greatest}
+use Rattle.ob_sheet.specs.Positions.{entered}
 use Rattle.ob_sheet.specs.Supply.{is_supplied_under}
 use Rattle.ob_sweep.specs.Acting.{moment_at, moment_of, moved, moved_all, pos_as_of, steps_from}
 use Rattle.ob_sweep.specs.Cutters.{cutter_at}
 use Rattle.ob_sweep.specs.Differences.{SaySame}
-use Rattle.ob_sweep.specs.Moments.{Moment, Step, after_all, at_end, last_cut, section_history}
-use Rattle.ob_sweep.specs.Runs.{History, history}
+use Rattle.ob_sweep.specs.Moments.{after_all, last_cut, section_history}
+use Rattle.ob_sweep.specs.Runs.{history}
 use Rattle.ob_sweep.proofs.Framed.{all_earlier, follow, in_order_left, in_order_right}
 use Rattle.ob_sweep.proofs.Growth.{AllBefore, adds, by_second}
 use Rattle.ob_sweep.proofs.Law.{Follow, later_ignored, upto_whole}

@@ -1,5 +1,5 @@
 -- What a device cuts off, while entries that don't alter it act; and what it tells of the supply.
-use Rattle.std.proofs.Common.{◌≡◌, ◌≢◌, ◌&&◌, ℕ, ◌<◌, inl, inr, Bool, IsTrue, true, false, not, List, [], Option, Some, None, refl, sym, ◌∙◌, ap, subst, length, get_or}
+use Rattle.std.proofs.Common.{◌≡◌, ◌&&◌, ℕ, ◌<◌, inl, inr, Bool, true, false, not, List, Option, Some, None, refl, sym, ◌∙◌, ap, length, get_or}
 use Rattle.std.proofs.Math.ListN.{set}
 use Rattle.std.proofs.lemmas.Bool.{cases_Bool, cases_eq, false≢true, true≢false}
 use Rattle.std.proofs.lemmas.List.{get_or-set_same, get_or-set_other}
@@ -8,7 +8,6 @@ use Rattle.ob_base.specs.declared.Pos.TheVariants.{Opened, Closed}
 use Rattle.ob_net.proofs.CutOff.{cut_off_supply, joined_supply, stays_cut_off, stays_joined}
 use Rattle.ob_net.specs.Apart.{device_at, is_at}
 use Rattle.ob_net.specs.CutOff.{AreAlikeAt, AreClosedWithin, IsSuppliedThrough, is_within}
-use Rattle.ob_net.specs.Joints.{IsClosedAt}
 use Rattle.ob_net.specs.Network.{Network}
 use Rattle.ob_net.specs.Nodes.{is_among}
 use Rattle.ob_net.specs.Walk.{is_closed, is_supplied}
@@ -16,7 +15,7 @@ use Rattle.ob_net.specs.declared.tracer.CutEnd.{CutEnd}
 use Rattle.ob_sheet.specs.declared.Entry.{Entry}
 use Rattle.ob_sweep.specs.Acting.{moved, pos_as_of}
 use Rattle.ob_sweep.specs.CutOffs.{HasFound, may_alter, nodes_through, other_end}
-use Rattle.ob_sweep.specs.Differences.{AreThrough, Supplies}
+use Rattle.ob_sweep.specs.Differences.{AreThrough}
 
 closed_pos : (p : Pos) → is_closed p ≡ true → p ≡ Closed
 closed_pos Opened h = absurd (false≢true h)

@@ -1,9 +1,9 @@
 -- Entries that are the same but for those of one device, and what a second of theirs makes of the sections to which it makes no difference.
-use Rattle.std.proofs.Common.{◌≡◌, ◌≢◌, ◌==◌, ◌&&◌, ℕ, zero, suc, inl, inr, Bool, true, false, not, cond, List, [], ◌∷◌, Option, Some, None, refl, sym, ◌∙◌, ap, subst}
+use Rattle.std.proofs.Common.{◌≡◌, ◌==◌, ◌&&◌, ℕ, zero, suc, inl, inr, Bool, true, false, not, cond, List, [], ◌∷◌, Option, Some, None, refl, sym, ◌∙◌, ap, subst}
 use Rattle.std.proofs.Math.ListN.{set}
 use Rattle.std.specs.List.{filter}
 use Rattle.std.specs.Option.{option_or}
-use Rattle.std.proofs.lemmas.Bool.{cases_Bool, cases_eq, cond-true, cond-false, eq-eqb, ne_eqb}
+use Rattle.std.proofs.lemmas.Bool.{cases_eq, cond-true, cond-false, eq-eqb, ne_eqb}
 use Rattle.std.proofs.lemmas.List.{set-set}
 use Rattle.ob_base.specs.declared.Pos.{Pos}
 use Rattle.ob_base.specs.declared.Pos.TheVariants.{Opened}
@@ -11,12 +11,12 @@ use Rattle.ob_net.specs.Network.{Network}
 use Rattle.ob_sheet.specs.declared.Entry.{Entry}
 use Rattle.ob_sweep.specs.Acting.{moment_of, moved, moved_all, pos_as_of, steps_from}
 use Rattle.ob_sweep.specs.Differences.{AllDuring, AreSameBut, AtEach, IsIndifferent, SaySame, Supplies}
-use Rattle.ob_sweep.specs.Moments.{Moment, Step, at_end, last_cut, section_history}
+use Rattle.ob_sweep.specs.Moments.{Step, at_end, last_cut, section_history}
 use Rattle.ob_sweep.specs.Runs.{History}
 use Rattle.ob_sweep.specs.Tracks.{IsSecond}
 use Rattle.ob_sweep.proofs.Acted.{end_of_steps}
 use Rattle.ob_sweep.proofs.OneDevice.{indifferent, still_indifferent}
-use Rattle.ob_sweep.proofs.Quiet.{at_last, say_same_back, say_same_on}
+use Rattle.ob_sweep.proofs.Quiet.{at_last}
 
 set_apart : (ps : List Pos) (k d : ℕ) (p q : Pos) → (k ≡ d → ⊥) → set (set ps k p) d q ≡ set (set ps d q) k p
 set_apart [] k d p q ne = refl

@@ -1,7 +1,7 @@
 -- The nodes that are supplied through a device alone, collected while entries act one after another.
-use Rattle.std.proofs.Common.{◌≡◌, ◌||◌, ◌==◌, ◌+◌, ◌<◌, ℕ, inl, inr, Bool, IsTrue, true, false, List, [], ◌∷◌, ◌++◌, Option, refl, sym, ◌∙◌, ap, subst, arith, length, get_or, take}
+use Rattle.std.proofs.Common.{◌≡◌, ◌||◌, ◌==◌, ◌<◌, ℕ, Bool, true, false, List, [], ◌∷◌, ◌++◌, refl, sym, ◌∙◌, ap, subst, arith, length}
 use Rattle.std.specs.List.{All}
-use Rattle.std.proofs.lemmas.Bool.{cases_Bool, false≢true, or_left, or_right}
+use Rattle.std.proofs.lemmas.Bool.{false≢true}
 use Rattle.std.proofs.lemmas.List.Elements.{All-append}
 use Rattle.std.proofs.lemmas.List.Folds.{list_any-append}
 use Rattle.ob_base.specs.declared.Pos.{Pos}
@@ -10,7 +10,7 @@ use Rattle.ob_net.specs.Nodes.{is_among}
 use Rattle.ob_net.specs.Walk.{is_supplied}
 use Rattle.ob_sheet.specs.declared.Entry.{Entry}
 use Rattle.ob_sweep.specs.Acting.{moved, moved_all, steps_from}
-use Rattle.ob_sweep.specs.CutOffs.{AreCollected, IsCut, nodes_through, other_end}
+use Rattle.ob_sweep.specs.CutOffs.{AreCollected, IsCut, nodes_through}
 use Rattle.ob_sweep.specs.Differences.{AtEach, IsIndifferent, Supplies}
 use Rattle.ob_sweep.specs.declared.cut_off.CutOff.{CutOff}
 use Rattle.ob_sweep.proofs.Altering.{through_found}

@@ -8,7 +8,7 @@ use Rattle.ob_base.specs.declared.Pos.TheVariants.{Opened, Closed}
 use Rattle.ob_base.specs.declared.Pos.{Pos}
 use Rattle.ob_net.specs.declared.net.Device.{Device}
 use Rattle.ob_net.specs.declared.net.Node.{Node}
-use Rattle.ob_sweep.specs.Moments.{Moment, Step, section_history}
+use Rattle.ob_sweep.specs.Moments.{Moment, section_history}
 use Rattle.ob_sweep.specs.Differences.{IsIndifferent, Supplies}
 use Rattle.ob_sweep.specs.Runs.{History, runs_between}
 use Rattle.ob_sweep.specs.declared.Run.{Run}

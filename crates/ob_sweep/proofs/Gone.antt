@@ -1,5 +1,5 @@
 -- The entries of any second taken, whether they alter what the device cuts off or not.
-use Rattle.std.proofs.Common.{◌≡◌, ◌+◌, ◌<◌, ◌≤◌, ℕ, suc, inl, inr, Bool, true, false, cond, List, Option, None, Some, refl, sym, ◌∙◌, ap, subst, arith, length, get_or}
+use Rattle.std.proofs.Common.{◌≡◌, ◌+◌, ◌<◌, ℕ, suc, inl, inr, Bool, true, cond, List, Option, None, Some, sym, ◌∙◌, ap, subst, arith, length, get_or}
 use Rattle.std.proofs.lemmas.Bool.{cases_Bool, cond-false}
 use Rattle.ob_base.specs.declared.Pos.{Pos}
 use Rattle.ob_base.specs.declared.Pos.TheVariants.{Opened}
@@ -11,9 +11,8 @@ use Rattle.ob_net.specs.declared.tracer.CutEnd.{CutEnd}
 use Rattle.ob_sheet.specs.declared.Entry.{Entry}
 use Rattle.ob_sweep.specs.Acting.{moment_of, moved_all}
 use Rattle.ob_sweep.specs.CutOffs.{GoOwnOutside, GoThrough, IsCut, nodes_through, other_end}
-use Rattle.ob_sweep.specs.Runs.{History}
 use Rattle.ob_sweep.specs.States.{IsGone, IsTaken}
-use Rattle.ob_sweep.specs.Tracks.{AreOldRuns, AreTracked, GoBySections, IsSecond, goes_through}
+use Rattle.ob_sweep.specs.Tracks.{AreTracked, IsSecond, goes_through}
 use Rattle.ob_sweep.specs.declared.Run.{Run}
 use Rattle.ob_sweep.specs.declared.cut_off.CutOff.{CutOff}
 use Rattle.ob_sweep.specs.declared.difference.Differences.{Differences}

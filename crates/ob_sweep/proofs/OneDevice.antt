@@ -1,15 +1,15 @@
 -- Two histories of positions that differ in one device: the laws.
-use Rattle.std.proofs.Common.{◌≡◌, ◌&&◌, ◌⊎◌, ℕ, zero, suc, ◌<◌, ◌≤◌, inl, inr, Bool, true, false, not, cond, List, [], ◌∷◌, Option, None, Some, IsTrue, refl, sym, ◌∙◌, ap, arith, map, get_or}
+use Rattle.std.proofs.Common.{◌≡◌, ◌&&◌, ◌⊎◌, ℕ, zero, suc, ◌<◌, ◌≤◌, inl, inr, Bool, false, not, cond, List, [], ◌∷◌, None, Some, IsTrue, refl, sym, ◌∙◌, ap, arith, get_or}
 use Rattle.std.proofs.Math.ListN.{set}
 use Rattle.std.specs.Option.{option_or}
 use Rattle.std.proofs.lemmas.List.{set-get_or}
 use Rattle.ob_base.specs.declared.Pos.{Pos}
 use Rattle.ob_base.specs.declared.Pos.TheVariants.{Opened, Closed}
-use Rattle.ob_sweep.specs.Moments.{Moment, Step, after_all, at_end, last_cut, section_history}
-use Rattle.ob_sweep.specs.Runs.{History, runs_between}
-use Rattle.ob_sweep.specs.Differences.{AllDuring, AreSameBut, AreThrough, AtEach, DifferIn, DifferenceLaw, DiffersAt, Has, HasRunsOver, IsIndifferent, IsStillOff, IsStretch, SaySame, StepsDiffer, StretchLaw, Supplies}
+use Rattle.ob_sweep.specs.Moments.{Step, after_all, last_cut, section_history}
+use Rattle.ob_sweep.specs.Runs.{History}
+use Rattle.ob_sweep.specs.Differences.{AreSameBut, AreThrough, AtEach, DifferenceLaw, DiffersAt, Has, IsIndifferent, IsStillOff, SaySame, StepsDiffer, StretchLaw, Supplies}
 use Rattle.ob_sweep.proofs.Law.{Alike}
-use Rattle.ob_sweep.proofs.Pieces.{of_section, runs_alike, runs_dark, runs_of_other}
+use Rattle.ob_sweep.proofs.Pieces.{runs_alike, runs_dark, runs_of_other}
 
 -- the positions with the device's own position
 as_is : (ps : List Pos) (d : ℕ) (p : Pos) → Has d p ps → ps ≡ set ps d p

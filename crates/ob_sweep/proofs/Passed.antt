@@ -1,17 +1,16 @@
 -- The tracks of all nodes after a second of which no entry alters what the device cuts off.
-use Rattle.std.proofs.Common.{◌≡◌, ◌||◌, ◌&&◌, ◌==◌, ◌<◌, ◌≤◌, ℕ, suc, inl, inr, Bool, IsTrue, true, false, not, List, [], ◌∷◌, Option, None, Some, IfSome, refl, sym, ◌∙◌, ap, subst, arith, length, get_or}
-use Rattle.std.proofs.Math.ListN.{set}
+use Rattle.std.proofs.Common.{◌≡◌, ◌&&◌, ◌==◌, ◌<◌, ◌≤◌, ℕ, suc, inl, inr, Bool, true, false, List, [], ◌∷◌, Option, None, Some, refl, sym, ◌∙◌, ap, subst, arith, length, get_or}
 use Rattle.std.specs.List.{All, AllByRecursion}
 use Rattle.std.proofs.lemmas.List.Elements.{recursion_from_All}
 use Rattle.ob_sheet.specs.Sheet.{NameDevices}
 use Rattle.ob_sweep.proofs.Parted.{each_both}
-use Rattle.std.proofs.lemmas.Bool.{and_parts, cases_eq, eqb-true, false≢true, true≢false, or_cases, or_left, or_right}
+use Rattle.std.proofs.lemmas.Bool.{and_parts, eqb-true, false≢true, true≢false, or_cases, or_left, or_right}
 use Rattle.std.proofs.lemmas.List.{get_or-set_other, length-set}
 use Rattle.ob_base.specs.declared.Pos.{Pos}
 use Rattle.ob_base.specs.declared.Pos.TheVariants.{Opened}
 use Rattle.ob_net.proofs.Connected.{connected_to}
 use Rattle.ob_net.specs.Apart.{device_at, is_at}
-use Rattle.ob_net.specs.CutOff.{IsCutOff, other_closed}
+use Rattle.ob_net.specs.CutOff.{other_closed}
 use Rattle.ob_net.specs.Network.{Network}
 use Rattle.ob_net.specs.Nodes.{is_among}
 use Rattle.ob_net.specs.Walk.{has_ends, is_supplied}
@@ -22,8 +21,7 @@ use Rattle.ob_sweep.specs.Acting.{moment_of, moved, moved_all, pos_as_of, steps_
 use Rattle.ob_sweep.specs.CutOffs.{GoThrough, HasFound, IsCut, may_alter, nodes_through, other_end}
 use Rattle.ob_sweep.specs.Differences.{AreThrough, AtEach, Has, SaySame, Supplies}
 use Rattle.ob_sweep.specs.Runs.{History}
-use Rattle.ob_sweep.specs.Timeline.{IsSection}
-use Rattle.ob_sweep.specs.Tracks.{AreTracked, IsSecond, IsTrackedBy, goes_by, goes_through}
+use Rattle.ob_sweep.specs.Tracks.{AreTracked, IsSecond, goes_by, goes_through}
 use Rattle.ob_sweep.specs.declared.cut_off.CutOff.{CutOff}
 use Rattle.ob_sweep.specs.declared.track.Track.{Track}
 use Rattle.ob_sweep.proofs.Altering.{stays, through_found}

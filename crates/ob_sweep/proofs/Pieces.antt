@@ -1,6 +1,6 @@
 -- The runs of a stretch of seconds out of pieces: of its parts, of a longer stretch, of a stretch without supply, and of another section.
-use Rattle.std.proofs.Common.{◌≡◌, ℕ, suc, ◌-◌, ◌<◌, ◌≤◌, inl, inr, Bool, true, false, cond, List, [], ◌∷◌, Option, refl, sym, ◌∙◌, ap, arith, map, nat_lt}
-use Rattle.std.proofs.lemmas.Bool.{cases_lt, cases_eq, cond-true, cond-false, cond_both}
+use Rattle.std.proofs.Common.{◌≡◌, ℕ, suc, ◌<◌, ◌≤◌, inl, inr, Bool, true, false, List, [], ◌∷◌, Option, refl, sym, ◌∙◌, arith, map}
+use Rattle.std.proofs.lemmas.Bool.{cases_lt}
 use Rattle.std.proofs.lemmas.Simd.{map-map}
 use Rattle.ob_base.specs.Seconds.{intervals}
 use Rattle.ob_sweep.specs.declared.Run.{Run}
@@ -8,7 +8,7 @@ use Rattle.ob_sweep.specs.Runs.{History, as_run, runs_between}
 use Rattle.ob_sweep.specs.Splice.{front, back, join}
 use Rattle.ob_sweep.proofs.Law.{Alike}
 use Rattle.ob_sweep.proofs.Seams.{back_tiles}
-use Rattle.ob_sweep.proofs.Tiles.{IsFirst, Loose, Tiles, front_tiles, join_tiles, looser, transfer}
+use Rattle.ob_sweep.proofs.Tiles.{Loose, Tiles, front_tiles, join_tiles, looser, transfer}
 use Rattle.ob_sweep.proofs.Unique.{CutBy, runs_tile, tiles_are_runs}
 
 module _ (v : ℕ) (h : History) where

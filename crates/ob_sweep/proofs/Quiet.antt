@@ -1,10 +1,10 @@
 -- A second of two histories that differ in one device, and what each section goes by then and from there on.
-use Rattle.std.proofs.Common.{◌≡◌, ℕ, zero, suc, ◌<◌, ◌≤◌, inl, inr, Bool, IsTrue, true, false, not, cond, List, [], ◌∷◌, Option, None, Some, refl, sym, ◌∙◌, ap, subst}
+use Rattle.std.proofs.Common.{◌≡◌, ℕ, inl, inr, Bool, true, false, cond, List, [], ◌∷◌, Option, None, Some, refl, sym, ◌∙◌, ap, subst}
 use Rattle.std.proofs.lemmas.Bool.{cases_Bool, cond-true, cond-false}
 use Rattle.ob_base.specs.declared.Pos.{Pos}
 use Rattle.ob_base.specs.declared.Pos.TheVariants.{Opened, Closed}
 use Rattle.ob_net.specs.Walk.{is_closed}
-use Rattle.ob_sweep.specs.Differences.{AllDuring, AreSameBut, AreThrough, AtEach, DifferIn, DiffersAt, Has, IsIndifferent, SaySame, StepsDiffer, Supplies}
+use Rattle.ob_sweep.specs.Differences.{AllDuring, AreThrough, AtEach, DiffersAt, Has, IsIndifferent, SaySame, StepsDiffer, Supplies}
 use Rattle.ob_sweep.specs.Moments.{Moment, Step, after_all, at_end, section_history}
 use Rattle.ob_sweep.specs.Runs.{History}
 use Rattle.ob_sweep.specs.Tracks.{IsSecond, goes_by, goes_through}

@@ -1,14 +1,14 @@
 -- Tracks of nodes, one after another.
-use Rattle.std.proofs.Common.{◌≡◌, ◌+◌, ◌<◌, ◌≤◌, ℕ, inl, inr, Bool, IsTrue, true, false, List, [], ◌∷◌, ◌++◌, Option, Some, None, refl, sym, ◌∙◌, ap, subst, arith, length, get_or, map, set, take, length-set}
-use Rattle.std.proofs.lemmas.Bool.{cases_Bool, cases_eq, false≢true}
+use Rattle.std.proofs.Common.{◌≡◌, ◌+◌, ◌<◌, ◌≤◌, ℕ, inl, inr, IsTrue, false, List, [], ◌∷◌, ◌++◌, Option, Some, refl, sym, ◌∙◌, ap, subst, arith, length, get_or, set, take, length-set}
+use Rattle.std.proofs.lemmas.Bool.{cases_eq, false≢true}
 use Rattle.std.proofs.lemmas.List.{get_or-set_same, get_or-set_other, take_more}
 use Rattle.ob_net.proofs.Nodes.{among_before, among_last}
 use Rattle.ob_net.specs.Network.{Network}
 use Rattle.ob_net.specs.Nodes.{is_among}
 use Rattle.ob_sweep.specs.Runs.{History, runs_between}
 use Rattle.ob_sweep.specs.Splice.{join}
-use Rattle.ob_sweep.specs.Timeline.{IsSection, runs_at}
-use Rattle.ob_sweep.specs.Tracks.{AreOldRuns, AreTracked, AreWithin, GoBySections, IsTracked, IsTrackedBy, part_of}
+use Rattle.ob_sweep.specs.Timeline.{runs_at}
+use Rattle.ob_sweep.specs.Tracks.{AreOldRuns, AreTracked, GoBySections, IsTracked, IsTrackedBy, part_of}
 use Rattle.ob_sweep.specs.declared.Run.{Run}
 use Rattle.ob_sweep.specs.declared.track.Track.{Track}
 use Rattle.ob_sweep.proofs.Tracked.{tracked_up}

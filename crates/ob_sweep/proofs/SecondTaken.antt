@@ -1,5 +1,5 @@
 -- The tracks of all nodes after a second whose entries act at the nodes that are supplied through the device.
-use Rattle.std.proofs.Common.{◌≡◌, ◌+◌, ◌<◌, ◌≤◌, ℕ, suc, inl, inr, Bool, IsTrue, true, false, not, cond, List, [], ◌∷◌, Option, None, Some, Vec, Global, IfSome, refl, sym, ◌∙◌, ap, subst, arith, length, get_or}
+use Rattle.std.proofs.Common.{◌≡◌, ◌+◌, ◌<◌, ◌≤◌, ℕ, suc, inl, inr, Bool, IsTrue, true, false, not, cond, List, [], ◌∷◌, Option, None, Some, Vec, Global, IfSome, sym, ◌∙◌, ap, subst, arith, length, get_or}
 use Rattle.std.proofs.lemmas.Bool.{cases_Bool, cond-true, cond-false, false≢true}
 use Rattle.std.proofs.lemmas.List.{get_or-map}
 use Rattle.std.proofs.lemmas.Option.{none-some, same_Some}

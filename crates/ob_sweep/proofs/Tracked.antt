@@ -1,16 +1,16 @@
 -- The new runs of a section, found part by part.
-use Rattle.std.proofs.Common.{◌≡◌, ℕ, suc, ◌-◌, ◌<◌, ◌≤◌, ◌==◌, nat_lt, inl, inr, Bool, true, false, cond, List, [], ◌∷◌, Option, None, Some, refl, sym, ◌∙◌, ap, arith, subst, map}
-use Rattle.std.proofs.lemmas.Bool.{cases_lt, cases_eq, cond-true, cond-false, cond_both, eq-eqb, ne_eqb, lt-ltb, le-ltb, ltb-true, ltb-false}
+use Rattle.std.proofs.Common.{◌≡◌, ℕ, suc, ◌<◌, ◌≤◌, ◌==◌, nat_lt, inl, inr, Bool, cond, List, [], ◌∷◌, Option, None, Some, refl, sym, ◌∙◌, ap, arith, subst, map}
+use Rattle.std.proofs.lemmas.Bool.{cases_lt, cases_eq, cond-true, cond-false, cond_both, eq-eqb, ne_eqb, lt-ltb, le-ltb}
 use Rattle.ob_sweep.specs.Differences.{SaySame}
 use Rattle.ob_sweep.specs.declared.Run.{Run}
 use Rattle.ob_sweep.specs.Runs.{History, runs_between}
 use Rattle.ob_sweep.specs.Splice.{back, front, join, splice}
 use Rattle.ob_sweep.specs.Timeline.{runs_at}
-use Rattle.ob_sweep.specs.Tracks.{AreRunsFrom, IsTracked, goes_by, part_of, recut, without_supply}
+use Rattle.ob_sweep.specs.Tracks.{AreRunsFrom, IsTracked, goes_by, part_of, recut}
 use Rattle.ob_sweep.proofs.Law.{Alike}
-use Rattle.ob_sweep.proofs.Pieces.{ArePart, dark_part, lit_part, of_section, own_part, part_joined, part_of_longer, parts_joined, runs_alike}
+use Rattle.ob_sweep.proofs.Pieces.{ArePart, dark_part, lit_part, of_section, part_joined, part_of_longer, parts_joined, runs_alike}
 use Rattle.ob_sweep.proofs.Seams.{back_tiles}
-use Rattle.ob_sweep.proofs.Tiles.{IsFirst, Loose, Tiles, front_tiles, transfer}
+use Rattle.ob_sweep.proofs.Tiles.{Loose, Tiles, front_tiles, transfer}
 use Rattle.ob_sweep.proofs.Unique.{CutBy, runs_tile, tiles_are_runs}
 
 -- the runs of a history with another cutter at its first second are a part

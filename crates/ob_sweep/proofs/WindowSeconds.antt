@@ -1,6 +1,6 @@
 -- The seconds of the window of a change: where no life begins or ends, each is one second of two histories that differ in the device of
 -- the change; outside it they are the same.
-use Rattle.std.proofs.Common.{◌≡◌, ◌==◌, ℕ, suc, ◌-◌, ◌<◌, ◌≤◌, nat_lt, inl, inr, Bool, true, false, not, cond, List, [], ◌∷◌, ◌++◌, Some, refl, sym, ◌∙◌, ap, arith, subst, length}
+use Rattle.std.proofs.Common.{◌≡◌, ◌==◌, ℕ, suc, ◌-◌, ◌<◌, ◌≤◌, nat_lt, inl, inr, Bool, not, List, [], ◌∷◌, ◌++◌, Some, refl, sym, ◌∙◌, ap, arith, subst, length}
 use Rattle.std.proofs.Math.ListN.{set}
 use Rattle.ob_base.specs.declared.Pos.TheVariants.{Opened}
 use Rattle.std.specs.List.{AllByRecursion, filter}

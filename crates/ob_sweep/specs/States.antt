@@ -1,6 +1,5 @@
 -- The outage intervals after a change of one device, as they are found second by second.
-use Rattle.std.specs.Prelude.{◌≡◌, ◌<◌, ◌≤◌, ◌+◌, ℕ, List, length}
-use Rattle.ob_base.specs.declared.Pos.{Pos}
+use Rattle.std.specs.Prelude.{◌≡◌, ◌≤◌, ◌+◌, ℕ, List, length}
 use Rattle.ob_net.specs.Network.{Network}
 use Rattle.ob_net.specs.Walk.{is_supplied}
 use Rattle.ob_sheet.specs.declared.Entry.{Entry}

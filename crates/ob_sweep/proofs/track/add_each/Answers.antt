@@ -1,8 +1,6 @@
-use Rattle.std.proofs.Common.{◌≡◌, ◌<◌, ◌≤◌, ◌+◌, ◌++◌, ◌∷◌, ℕ, Bool, true, false, List, [], Option, None, Some, not, cond, length, get_or, set, take, refl, sym, ap, ◌∙◌, arith, subst}
+use Rattle.std.proofs.Common.{◌≡◌, ◌<◌, ◌+◌, ◌∷◌, ℕ, true, false, List, [], None, Some, not, cond, length, get_or, set, take, sym, ap, ◌∙◌, arith, subst}
 use Rattle.std.proofs.lemmas.List.{get_or_default, set-get_or}
-use Rattle.ob_net.proofs.Nodes.{among_last}
 use Rattle.ob_net.specs.Nodes.{is_among}
-use Rattle.ob_sweep.specs.Tracks.{IsAdded}
 use Rattle.ob_sweep.specs.declared.track.Track.{Track}
 use Rattle.ob_sweep.specs.Splice.{join}
 use Rattle.ob_sweep.specs.declared.Run.{Run}

@@ -1,4 +1,4 @@
-use Rattle.std.proofs.Common.{◌≡◌, Bool, true, false, not, cond, List, [], ◌∷◌, sym, ◌∙◌, ap}
+use Rattle.std.proofs.Common.{◌≡◌, not, cond, List, [], ◌∷◌, sym, ◌∙◌, ap}
 use Rattle.ob_sweep.specs.declared.Run.{Run}
 use Rattle.ob_sweep.specs.Splice.{join}
 use Rattle.ob_sweep.specs.declared.track.Track.{Track}

@@ -1,4 +1,4 @@
-use Rattle.std.proofs.Common.{◌≡◌, ◌<◌, ℕ, cond, Option, length, get_or, take}
+use Rattle.std.proofs.Common.{◌≡◌, ◌<◌, ℕ, cond, length, get_or, take}
 use Rattle.ob_net.specs.Nodes.{is_among}
 use Rattle.ob_sweep.specs.declared.track.Track.{Track}
 use Rattle.ob_sweep.proofs.track.set_sources.Given as goal

@@ -1,13 +1,11 @@
-use Rattle.std.proofs.Common.{◌≡◌, ◌<◌, ℕ, false, List, length, sym, ap, ◌∙◌, subst}
-use Rattle.std.specs.List.{AllByRecursion}
+use Rattle.std.proofs.Common.{◌≡◌, List, length, sym, ap, ◌∙◌, subst}
 use Rattle.std.specs.Vec.{with_items}
 use Rattle.std.proofs.lemmas.List.{with_items_is}
-use Rattle.std.proofs.lemmas.List.Elements.{recursion_from_All}
 use Rattle.ob_base.specs.declared.Pos.{Pos}
 use Rattle.ob_net.specs.Network.{Network}
 use Rattle.ob_sheet.specs.declared.Entry.{Entry}
 use Rattle.ob_sweep.specs.Acting.{moved_all}
-use Rattle.ob_sweep.specs.CutOffs.{HasFound, may_alter}
+use Rattle.ob_sweep.specs.CutOffs.{HasFound}
 use Rattle.ob_sweep.specs.declared.cut_off.CutOff.{CutOff}
 use Rattle.ob_sweep.proofs.Passed.{Quiet, found_all, long_all, quiet_all}
 use Rattle.ob_sweep.proofs.cut_off.CutOff.pass.Goals as goal

@@ -1,4 +1,4 @@
-use Rattle.std.proofs.Common.{◌≡◌, ◌<◌, ℕ, List, length, sym, ◌∙◌, ap, arith, subst, set, length-set}
+use Rattle.std.proofs.Common.{ℕ, sym, ◌∙◌, arith, subst, set, length-set}
 use Rattle.ob_base.specs.declared.Pos.{Pos}
 use Rattle.ob_sweep.specs.CutOffs.{HasFound}
 use Rattle.ob_sweep.proofs.Altering.{stays}

@@ -1,4 +1,4 @@
-use Rattle.std.proofs.Common.{◌≡◌, ◌<◌, ◌≤◌, ◌+◌, ℕ, suc, Bool, IsTrue, false, cond, List, Option, Vec, Global, IfSome, length, get_or, map, sym, ap, ◌∙◌, arith, subst}
+use Rattle.std.proofs.Common.{◌≡◌, ◌<◌, ◌+◌, ℕ, suc, Bool, IsTrue, false, cond, List, Option, Vec, Global, length, get_or, sym, ap, ◌∙◌, arith, subst}
 use Rattle.std.specs.Vec.{with_items}
 use Rattle.std.proofs.lemmas.List.{with_items_is}
 use Rattle.ob_base.specs.declared.Pos.{Pos}
@@ -8,10 +8,8 @@ use Rattle.ob_net.specs.Nodes.{is_among}
 use Rattle.ob_net.specs.Walk.{is_supplied}
 use Rattle.ob_sheet.specs.declared.Entry.{Entry}
 use Rattle.ob_sweep.specs.Acting.{moment_of, moved_all}
-use Rattle.ob_sweep.specs.CutOffs.{AreCollected, AreLooked, GoOwnOutside, GoThrough, IsCut, nodes_through, source_through}
-use Rattle.ob_sweep.specs.Runs.{History}
+use Rattle.ob_sweep.specs.CutOffs.{AreCollected, AreLooked, GoThrough, IsCut, nodes_through, source_through}
 use Rattle.ob_sweep.specs.Tracks.{AreAdded, AreTracked, AreWithin, GoBySections, IsSecond}
-use Rattle.ob_sweep.specs.declared.Run.{Run}
 use Rattle.ob_sweep.specs.declared.cut_off.CutOff.{CutOff}
 use Rattle.ob_sweep.specs.declared.track.Track.{Track}
 use Rattle.ob_sweep.proofs.SecondTaken.{go_through, second_taken, within_last}
