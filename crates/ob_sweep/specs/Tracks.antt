@@ -1,5 +1,5 @@
 -- How far the new runs of a section are found, and what it goes by from there on: the old history of a section, or no supply.
-use Rattle.std.specs.Prelude.{◌≡◌, ℕ, ◌+◌, IsTrue, not, suc, ◌<◌, ◌≤◌, ◌==◌, nat_lt, Bool, true, false, List, [], ◌∷◌, Option, Some, None, map, length, slice_index_or, if◌then◌else◌}
+use Rattle.std.specs.Prelude.{◌≡◌, ℕ, ◌+◌, IsTrue, not, suc, ◌<◌, ◌≤◌, ◌==◌, ◌&&◌, nat_lt, max, min, Bool, true, false, List, [], ◌∷◌, Option, Some, None, map, length, slice_index_or, if◌then◌else◌}
 use Rattle.ob_base.specs.declared.Pos.{Pos}
 use Rattle.ob_net.specs.Network.{Network}
 use Rattle.ob_net.specs.Nodes.{is_among}
@@ -29,6 +29,14 @@ goes_through has other pos v = if has v then (if is_closed pos then Some other e
 abbrev pub part_of : List (List Run) → Option ℕ → ℕ → ℕ → ℕ → List Run
 part_of lists None v a b = if nat_lt a b then record { section = v; since = a; until = b; cutter = None } ∷ [] else []
 part_of lists (Some w) v a b = map {A = Run} (λ r. record r { section = v }) (back a (front b (runs_at lists w)))
+
+-- runs as far as they lie in the seconds from a up to b, as those of the section v
+abbrev pub cut_to : ℕ → ℕ → ℕ → List Run → List Run
+cut_to v a b [] = []
+cut_to v a b (r ∷ rs) =
+    if nat_lt a r.until && nat_lt r.since b
+    then record { section = v; since = max r.since a; until = min r.until b; cutter = r.cutter } ∷ cut_to v a b rs
+    else cut_to v a b rs
 
 -- the history with another cutter at one second
 abbrev pub recut : ℕ → Option ℕ → History → History

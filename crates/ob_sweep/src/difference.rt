@@ -1,10 +1,11 @@
 //! What a change of one device's position alters in the outage intervals.
-ghost use Rattle.std.specs.Prelude.{◌≡◌, ◌<◌, ◌≤◌, ◌+◌, IfErr, IfOk, drop, length, map, take};
+ghost use Rattle.std.specs.Prelude.{◌≡◌, ◌<◌, ◌≤◌, ◌+◌, ℕ, IfErr, IfOk, drop, length, map, take};
 ghost use Rattle.std.specs.List.{All, AllPairs};
 ghost use Rattle.ob_base.specs.Stop.{out_of_memory};
 ghost use Rattle.ob_sheet.specs.Sheet.{NameDevices};
 ghost use Rattle.ob_sweep.specs.Differences.{DifferenceLaw, StretchLaw};
 ghost use Rattle.ob_sweep.specs.OneChange.{IsOneChange, JoinsSections};
+ghost use Rattle.ob_sweep.specs.Timeline.{AreOfNode, runs_at};
 ghost use Rattle.ob_sweep.specs.Tracks.{AreTracked, AreWithin, GoBySections};
 
 use crate::Run;
@@ -32,6 +33,7 @@ impl Differences {
     ghost use Rattle.ob_sweep.specs.CutOffs.{may_alter};
     ghost use Rattle.ob_sweep.specs.OneChange.{IsFirst, IsOneChange, JoinsSections};
     ghost use Rattle.ob_sweep.specs.States.{IsGone, IsState, IsTaken};
+    ghost use Rattle.ob_sweep.specs.Timeline.{AreOfNode, runs_at};
     ghost use Rattle.ob_sweep.specs.Tracks.{AreTracked, GoBySections};
     ghost use Rattle.ob_sweep.specs.declared.Run.{Run as ARun};
 
@@ -79,6 +81,7 @@ impl Differences {
         requires own { IsFirst self.old.cut.device first self.old.positions.items self.old }
         requires ends { JoinsSections net.old.network self.old.cut.device }
         requires old { length net.old.network.nodes ≤ length old.now }
+        requires old_of_nodes { (v : ℕ) → AreOfNode v (runs_at (map (λ l. l.items) old.now) v) }
         requires devices { NameDevices (length net.old.network.devices) entries.now }
         requires rising { AllPairs (λ a b. a.second ≤ b.second) entries.now }
         requires some { first < end }
@@ -117,6 +120,7 @@ impl Differences {
     ) -> Result<(), AllocError>
         requires state { IsState net.old.network self.old }
         requires old { length net.old.network.nodes ≤ length old.now }
+        requires old_of_nodes { (v : ℕ) → AreOfNode v (runs_at (map (λ l. l.items) old.now) v) }
         requires devices { NameDevices (length net.old.network.devices) entries.now }
         requires next { end ≡ second + 1 }
         ensures state { OnOk result (IsState net.old.network self.new) }
@@ -163,6 +167,7 @@ impl Differences {
     ) -> Result<(), AllocError>
         requires state { IsState net.old.network self.old }
         requires old { length net.old.network.nodes ≤ length old.now }
+        requires old_of_nodes { (v : ℕ) → AreOfNode v (runs_at (map (λ l. l.items) old.now) v) }
         requires devices { NameDevices (length net.old.network.devices) entries.now }
         requires next { end ≡ second + 1 }
         ensures state { OnOk result (IsState net.old.network self.new) }
@@ -220,6 +225,7 @@ pub fn tracks_of(
     requires positions { length positions.items ≡ length net.old.network.devices }
     requires ends { JoinsSections net.old.network device }
     requires old { length net.old.network.nodes ≤ length old.now }
+    requires old_of_nodes { (v : ℕ) → AreOfNode v (runs_at (map (λ l. l.items) old.now) v) }
     requires devices { NameDevices (length net.old.network.devices) entries.now }
     requires rising { AllPairs (λ a b. a.second ≤ b.second) entries.now }
     requires some { first < end }

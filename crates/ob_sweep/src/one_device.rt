@@ -23,10 +23,11 @@ use std::alloc::{AllocError, Global};
 /// whether it is one of them.
 fn tracked_nodes(
     alloc: Global,
+    net: &Net,
     tracks: &[Track],
     first: Second,
 ) -> Result<(Vec<u16>, Vec<bool>), AllocError>
-    requires { length tracks.now ≤ 65_536 }
+    requires { length tracks.now ≡ length net.now.network.nodes }
     ensures nodes { IfOk result (λ r. All (λ v. v < length tracks.now) r.0.items) }
     ensures count { IfOk result (λ r. length r.1.items ≡ length tracks.now) }
     ensures marked { IfOk result (λ r. (v : ℕ) → IsTrue (is_reached r.1.items v)
@@ -38,9 +39,8 @@ fn tracked_nodes(
 {
     let mut nodes = Vec::new(alloc);
     let mut marks = Vec::with_capacity(alloc, tracks.len())?;
-    for place in 0..tracks.len() {
-        let node = place as u16;
-        let is_marked = !is_untouched(&tracks[place], node, first);
+    for node in 0..net.nodes() {
+        let is_marked = !is_untouched(&tracks[usize::from(node)], node, first);
         if is_marked {
             nodes.push(node)?;
         }
@@ -106,7 +106,7 @@ pub fn plan_one_device(
     ensures searches { net.new.searches ≤ net.old.searches + (1 + length entries.now) }
 {
     let mut tracks = tracks_of(alloc, net, old, device, positions, entries, first, end)?;
-    let (nodes, marks) = tracked_nodes(alloc, &tracks, first)?;
+    let (nodes, marks) = tracked_nodes(alloc, net, &tracks, first)?;
     reach_each(alloc, &mut tracks, &nodes, old, end)?;
     let lists = into_lists(alloc, tracks)?;
     Ok(Delta::splice_near(alloc, net, &marks, old, &lists, first, end)?)

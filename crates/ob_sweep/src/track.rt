@@ -1,16 +1,17 @@
 //! The outage intervals of single nodes after a change, as far as they are found.
 ghost use Rattle.std.specs.Prelude.{◌≡◌, ◌<◌, ◌≤◌, ◌+◌, ℕ, Bool, IfOk, IsTrue, OnOk, Some, None, [], ◌∷◌, false, length, map, not, slice_index_or, if◌then◌else◌};
-ghost use Rattle.std.specs.List.{All};
+ghost use Rattle.std.specs.List.{All, AllPairs};
 ghost use Rattle.ob_net.specs.Network.{Network};
 ghost use Rattle.ob_net.specs.Nodes.{is_among};
 ghost use Rattle.ob_sweep.specs.Runs.{History};
 ghost use Rattle.ob_sweep.specs.Splice.{back, front, join};
-ghost use Rattle.ob_sweep.specs.Tracks.{AreAdded, AreOldRuns, AreTracked, AreWithin, GoBySections, part_of};
+ghost use Rattle.ob_sweep.specs.Timeline.{AreOfNode, runs_at};
+ghost use Rattle.ob_sweep.specs.Tracks.{AreAdded, AreOldRuns, AreTracked, AreWithin, GoBySections, cut_to, part_of};
 ghost use Rattle.ob_sweep.specs.declared.track.Track.{Track as ATrack};
 ghost use Rattle.ob_sweep.specs.declared.Run.{Run as ARun};
 
 use crate::Run;
-use crate::splice::{append_joined, runs_before, runs_from};
+use crate::splice::{append_joined, places_touching};
 use ob_base::Second;
 use std::alloc::{AllocError, Global};
 
@@ -45,19 +46,33 @@ pub fn own_tracks(alloc: Global, nodes: u16, first: Second) -> Result<Vec<Track>
     Ok(tracks)
 }
 
-/// The same outage intervals as those of another section.
-fn with_section(alloc: Global, section: u16, runs: &[Run]) -> Result<Vec<Run>, AllocError>
-    ensures { IfOk result (λ own. own.items
-        ≡ map {A = ARun} (λ r. record r { section = section }) runs.now) }
+/// Outage intervals as far as they lie in the seconds from `first` up to `end`, as those of a
+/// section.
+fn cut_to(
+    alloc: Global,
+    section: u16,
+    runs: &[Run],
+    first: Second,
+    end: Second,
+) -> Result<Vec<Run>, AllocError>
+    ensures { IfOk result (λ part. part.items ≡ cut_to section first end runs.now) }
 {
-    let mut own = Vec::with_capacity(alloc, runs.len())?;
+    let mut part = Vec::with_capacity(alloc, runs.len())?;
     for run in runs {
-        own.push(Run { section, ..*run })?;
+        if first < run.until && run.since < end {
+            part.push(Run {
+                section,
+                since: run.since.max(first),
+                until: run.until.min(end),
+                cutter: run.cutter,
+            })?;
+        }
     }
-    Ok(own)
+    Ok(part)
 }
 
-/// The outage intervals of a section from one second up to another, out of those of another one.
+/// The outage intervals of a section from one second up to another, out of those of another one. It
+/// looks only at those that touch these seconds.
 fn runs_of_source(
     alloc: Global,
     section: u16,
@@ -65,12 +80,16 @@ fn runs_of_source(
     first: Second,
     end: Second,
 ) -> Result<Vec<Run>, AllocError>
+    requires some { All (λ r. r.since < r.until) runs.now }
+    requires rising { AllPairs (λ r s. r.until < s.since) runs.now }
     ensures { IfOk result (λ part. part.items ≡ map {A = ARun} (λ r. record r { section = section })
         (back first (front end runs.now))) }
 {
-    let before = runs_before(alloc, runs, end)?;
-    let part = runs_from(alloc, &before, first)?;
-    with_section(alloc, section, &part)
+    if end <= first {
+        return Ok(Vec::new(alloc));
+    }
+    let (from, to) = places_touching(runs, first, end);
+    cut_to(alloc, section, &runs[from..to], first, end)
 }
 
 /// The outage intervals of a section from one second up to another, if it goes by the old intervals
@@ -83,7 +102,8 @@ fn part_of(
     first: Second,
     end: Second,
 ) -> Result<Vec<Run>, AllocError>
-    requires { (w : ℕ) → source ≡ Some w → w < length old.now }
+    requires within { (w : ℕ) → source ≡ Some w → w < length old.now }
+    requires old_of_nodes { (v : ℕ) → AreOfNode v (runs_at (map (λ l. l.items) old.now) v) }
     ensures { IfOk result (λ part. part.items
         ≡ part_of (map (λ l. l.items) old.now) source section first end) }
 {
@@ -110,7 +130,8 @@ fn reach(
     old: &[Vec<Run>],
     second: Second,
 ) -> Result<(), AllocError>
-    requires { (w : ℕ) → track.old.source ≡ Some w → w < length old.now }
+    requires within { (w : ℕ) → track.old.source ≡ Some w → w < length old.now }
+    requires old_of_nodes { (v : ℕ) → AreOfNode v (runs_at (map (λ l. l.items) old.now) v) }
     ensures runs { OnOk result (track.new.runs.items ≡ join track.old.reached track.old.runs.items
         (part_of (map (λ l. l.items) old.now) track.old.source node track.old.reached second)) }
     ensures reached { OnOk result (track.new.reached ≡ second) }
@@ -132,6 +153,7 @@ pub fn reach_each(
 ) -> Result<(), AllocError>
     requires nodes { All (λ v. v < length tracks.old) nodes.now }
     requires sources { AreWithin (length old.now) tracks.old }
+    requires old_of_nodes { (v : ℕ) → AreOfNode v (runs_at (map (λ l. l.items) old.now) v) }
     ensures count { length tracks.new ≡ length tracks.old }
     ensures tracked { (net : Network) (g h : ℕ → History) (lo first hi : ℕ) → lo ≤ first
         → second ≤ hi → AreOldRuns net g lo hi (map (λ l. l.items) old.now)
