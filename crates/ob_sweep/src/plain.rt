@@ -1,4 +1,4 @@
-//! The changes of a switching log that can be found by what their device cuts off.
+//! Which changes of a switching log are planned by what their device cuts off.
 ghost use Rattle.std.specs.Prelude.{◌<◌, IsTrue, length};
 ghost use Rattle.ob_sweep.specs.Plain.{IsPlain};
 
