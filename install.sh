@@ -23,7 +23,7 @@ if [ ! -x "$program" ]; then
 fi
 
 put() { # MODE FILE PLACE
-    mkdir -p "$(dirname "$to/$3")"
+    [ -d "$to/${3%/*}" ] || mkdir -p "$to/${3%/*}"
     cp "$2" "$to/$3.new"
     chmod "$1" "$to/$3.new"
     mv "$to/$3.new" "$to/$3"
@@ -60,7 +60,7 @@ without_links() { # PAGE: prints the commands of sed, one for each file that the
 &/g' "$1" | sed -n 's/^](\([^)#]*\)[^)]*).*/\1/p' | sort -u | while read -r target; do
         case $target in
         '' | *://* | mailto:*) ;;
-        *) [ -e "$(dirname "$1")/$target" ] || printf '%s\n' "$target" ;;
+        *) [ -e "${1%/*}/$target" ] || printf '%s\n' "$target" ;;
         esac
     done | sed -e 's/[].[*^$\|]/\\&/g' \
         -e 's/.*/s|!\\{0,1\\}\\[\\([^][]*\\(\\[[^][]*\\][^][]*\\)*\\)\\](&\\(#[^)]*\\)\\{0,1\\})|\\1|g/'

@@ -138,8 +138,10 @@ class Contents:
         """The section behind a customer's meter, where it is a device at the section that supplies it; else the section itself."""
         ends = self.devices[meter].ends if meter in self.devices else ()
         others = [end for end in ends if end != section] if section in ends else []
+        if not others:
+            return section
         listed = [device for device in self.devices.values() if set(others) & set(device.ends)]
-        return others[0] if others and len(listed) == 1 else section
+        return others[0] if len(listed) == 1 else section
 
     def take_meters(self, meters: Meters) -> None:
         """The sections and devices that tickets of single services get when rows are written."""

@@ -120,7 +120,7 @@ def wrong_after(maker: Maker, table: Path, commands: int) -> str | None:
     if not maker.have_ended():
         return f"children go on: {maker.children()}"
     if "book.db" in files:
-        with open_book(str(maker.book), str(table)) as found:
+        with open_book(str(maker.book), str(table), str(maker.program)) as found:
             count = found.database.execute("SELECT count(*) FROM cmd").fetchone()[0]
             if count != commands:
                 return f"the book has {count} commands of {commands}"

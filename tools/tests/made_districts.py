@@ -105,7 +105,7 @@ def said_to(cut: Cut, part: str, commands: list[tuple[str, str]]) -> Iterator[li
 
 def book_of(period: tuple[str, int, str], rows: list[list[str]]) -> Any:
     """The model's book of some rows, none of which is refused."""
-    book = Book(Period(*period), keeps_moves=False)
+    book = Book(Period(*period))
     for row in rows:
         book.act(row)
     return book
@@ -150,7 +150,7 @@ def add_ties(whole: Any, rng: random.Random) -> None:
 
 def make(folder: Path, seed: int, with_ties: bool) -> None:
     period = period_of(seed)
-    whole = Book(Period(*period), keeps_moves=False)
+    whole = Book(Period(*period))
     whole.import_text(text_of(seed))
     if with_ties:
         add_ties(whole, random.Random(f"ties {seed}"))
@@ -170,7 +170,7 @@ def make(folder: Path, seed: int, with_ties: bool) -> None:
 def make_of_text(folder: Path, line: str) -> None:
     """The book of a text; a row that is refused is an error."""
     text, first, days, zone = line.split()
-    book = Book(Period(first, int(days), zone), keeps_moves=False)
+    book = Book(Period(first, int(days), zone))
     _, _, refusal = book.import_text(Path(text).read_bytes())
     if refusal:
         sys.exit(f"{text}: {refusal}")

@@ -4,7 +4,7 @@ Six feeders are on Eastern time, two on Central time. Breakers are told by SCADA
 The counts that the outage management system would tell are traced over the trees, and share nothing with the tools.
 """
 
-import copy
+import pickle
 import random
 from collections.abc import Iterable, Iterator
 from dataclasses import dataclass, field, replace
@@ -383,6 +383,6 @@ MISTAKES = {
 
 def with_mistake(made: Utility, mistake: str) -> Utility:
     """A copy with one mistake."""
-    found = copy.deepcopy(made)
+    found: Utility = pickle.loads(pickle.dumps(made))
     MISTAKES[mistake](found)
     return found

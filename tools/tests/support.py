@@ -111,16 +111,38 @@ def opened(made: Made) -> Checked:
     return stack.enter_context(open_book(str(made.book), str(made.table)))
 
 
-def stand_in() -> Path:
+@lru_cache(maxsize=None)
+def model_folder() -> Path:
     """A folder in which made_program.py is the program."""
-    path = folder() / "bin" / "outagebook"
+    path = folder() / "model" / "outagebook"
     path.parent.mkdir()
     path.write_text(f'#!/bin/sh\nexec "{sys.executable}" -ES "{TESTS}/made_program.py" "$@"\n')
     path.chmod(0o755)
     return path.parent
 
 
-os.environ["PATH"] = f"{stand_in()}:{os.environ['PATH']}"  # tools run it where a test names no program
+def program_folder() -> Path:
+    """A folder in which the built program lies; model_folder() where there is none."""
+    if not PROGRAM.exists():
+        return model_folder()
+    path = folder() / "bin" / "outagebook"
+    path.parent.mkdir()
+    path.symlink_to(PROGRAM.resolve())
+    return path.parent
+
+
+os.environ["PATH"] = f"{program_folder()}:{os.environ['PATH']}"  # tools run it where a test names no program
+
+
+@contextlib.contextmanager
+def model_answers() -> Iterator[None]:
+    """The model takes the place of the program, which refuses to read a book with a changed row."""
+    before = os.environ["PATH"]
+    os.environ["PATH"] = f"{model_folder()}:{before}"
+    try:
+        yield
+    finally:
+        os.environ["PATH"] = before
 
 
 def fortnight() -> Made:

@@ -71,7 +71,10 @@ class Lives(unittest.TestCase):
 
 
 class Changed(unittest.TestCase):
-    """What differs is told with both values, and nothing is answered."""
+    """What differs is told with both values, and nothing is answered. The program refuses to read most of these books."""
+
+    def setUp(self) -> None:
+        self.enterContext(support.model_answers())
 
     def reported(self, path: Path, table: Path | None = None) -> str:
         done = support.run_tool("figures", path, "days", "--table", table or support.fortnight().table)
@@ -168,10 +171,10 @@ class AtWork(unittest.TestCase):
             writer.execute("PRAGMA journal_mode = wal")
             writer.execute("BEGIN IMMEDIATE")
             writer.execute("UPDATE posting SET amount = 7 WHERE dim = 3 AND k = 1")  # half of a command
-            with open_book(str(path), str(support.fortnight().table)) as found:
+            with support.model_answers(), open_book(str(path), str(support.fortnight().table)) as found:
                 self.assertEqual(len([*joined(found.interruptions)]), 23)
             writer.execute("COMMIT")
-            with self.assertRaises(Differs):
+            with support.model_answers(), self.assertRaises(Differs):
                 with open_book(str(path), str(support.fortnight().table)):
                     pass
 

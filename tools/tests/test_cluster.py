@@ -39,7 +39,7 @@ def books() -> list[Path]:
 
 @lru_cache(maxsize=None)
 def slow_program() -> Path:
-    """A program that takes a second for the table of a book, and writes down that it began; it does all else as the stand-in."""
+    """A program that takes a second for the table of a book, and writes down that it began; it does all else as the one on the path."""
     where = many_books.folder() / "slow"
     where.mkdir()
     for book in books():

@@ -132,12 +132,30 @@ def own_program() -> Path:
     return program
 
 
+@lru_cache(maxsize=None)
+def under_prefix(times: int = 1) -> Path:
+    """A prefix under which all is installed, once or over what was there."""
+    prefix = support.folder() / f"prefix-{times}"
+    if times > 1:
+        shutil.copytree(under_prefix(times - 1), prefix, symlinks=True)
+    done = install(prefix, PROGRAM=own_program())
+    if (done.returncode, done.stderr) != (0, ""):
+        raise AssertionError(f"status {done.returncode}: {done.stderr}")
+    return prefix
+
+
+@lru_cache(maxsize=None)
+def help_of(command: Path) -> str:
+    """What an installed command says of itself."""
+    done = subprocess.run([sys.executable, str(command), "--help"], capture_output=True, text=True, check=False)
+    if done.returncode:
+        raise AssertionError(done.stderr)
+    return done.stdout
+
+
 class Install(unittest.TestCase):
     def test_under_a_prefix(self) -> None:
-        prefix = support.folder() / "prefix"
-        for _ in range(2):
-            done = install(prefix, PROGRAM=own_program())
-            self.assertEqual((done.returncode, done.stderr), (0, ""))
+        prefix = under_prefix(2)
         tools = [
             "agree",
             "check",
@@ -157,10 +175,7 @@ class Install(unittest.TestCase):
             sorted(["outagebook", "outagebook-screen", *(f"outagebook-{tool}" for tool in tools)]),
         )
         for tool in tools:
-            command = [sys.executable, str(prefix / "bin" / f"outagebook-{tool}"), "--help"]
-            done = subprocess.run(command, capture_output=True, text=True, check=False)
-            self.assertEqual(done.returncode, 0, done.stderr)
-            self.assertIn("usage:", done.stdout)
+            self.assertIn("usage:", help_of(prefix / "bin" / f"outagebook-{tool}"))
         made = support.fortnight()
         command = [str(prefix / "bin" / "outagebook-compare"), str(made.book), "--table", str(made.table)]
         self.assertEqual(subprocess.run(command, capture_output=True, check=False).returncode, 0)
@@ -182,17 +197,15 @@ class ManualPages(unittest.TestCase):
     """The manual pages that Debian's packages have of the tools and the screen."""
 
     def test_each_command_has_a_page_with_its_options(self) -> None:
-        prefix, pages = support.folder() / "prefix-of-manual", support.folder() / "manual"
+        prefix, pages = under_prefix(2), support.folder() / "manual"
         pages.mkdir()
-        self.assertEqual(install(prefix, PROGRAM=own_program()).returncode, 0)
         writer = [sys.executable, str(PACKAGING / "manual_pages.py"), str(prefix / "bin"), str(pages)]
         done = subprocess.run(writer, capture_output=True, text=True, check=False)
         self.assertEqual((done.returncode, done.stderr), (0, ""))
         commands = sorted((prefix / "bin").glob("outagebook-*"))
         self.assertEqual(sorted(page.stem for page in pages.iterdir()), [command.name for command in commands])
         for command in commands:
-            words = [sys.executable, str(command), "--help"]
-            told = subprocess.run(words, capture_output=True, text=True, check=True).stdout
+            told = help_of(command)
             page = (pages / f"{command.name}.1").read_text().replace("\\-", "-")
             self.assertIn(f".SH NAME\n{command.name} - ", page)
             self.assertLessEqual(set(re.findall(r"--[a-z][a-z-]*", told)), set(re.findall(r"--[a-z][a-z-]*", page)))
@@ -214,10 +227,9 @@ class Pages(unittest.TestCase):
 
     def test_of_the_repository(self) -> None:
         """No link is dead in the installed copy; a heading that the repository's own pages lack is a defect of these."""
-        prefix = support.folder() / "prefix-of-pages"
         lacking = {line for line in dead_links(support.ROOT) if "no such heading" in line}
-        for _ in range(2):
-            self.assertEqual(install(prefix, PROGRAM=own_program()).returncode, 0)
+        for times in (1, 2):
+            prefix = under_prefix(times)
             self.assertEqual([line for line in dead_links(prefix / DOCUMENTS) if line not in lacking], [])
         for folder in ("docs", "examples", "deploy"):
             here, there = (

@@ -1,5 +1,5 @@
-"""A book by one command: that of the single steps, whole or not at all. The model stands in for the program where that isn't what
-a test is of (made_program.py)."""
+"""A book by one command: that of the single steps, whole or not at all. The model stands in for the program (made_program.py) where
+there is none, and where a test wants a second one or one that takes its time."""
 
 import contextlib
 import errno
@@ -34,7 +34,8 @@ class Making(unittest.TestCase):
         self.folder = support.folder() / "make"
         self.addCleanup(shutil.rmtree, self.folder, True)
         self.folder.mkdir()
-        self.maker = Maker(self.folder / "runs", kill_make.stand_in(self.folder))
+        program = support.PROGRAM if support.has_program() else kill_make.stand_in(self.folder)
+        self.maker = Maker(self.folder / "runs", program)
 
     def refused(self, *words: object, status: int = 1, files: set[str] = set()) -> str:
         """A run that makes no book, and leaves no file: what it says."""
@@ -67,6 +68,7 @@ class Making(unittest.TestCase):
 
 class Whole(Making):
     def test_the_book_is_that_of_the_single_steps(self) -> None:
+        self.maker.program = kill_make.stand_in(self.folder)
         done = self.maker.run()
         self.assertEqual(done.returncode, 0, done.stderr)
         self.assertEqual(done.stdout.splitlines()[-1], f"made {self.maker.book}")
@@ -137,6 +139,7 @@ class Whole(Making):
 
     def test_signals_to_end(self) -> None:
         """What was made so far goes away, and the program that is at work ends."""
+        self.maker.program = kill_make.stand_in(self.folder)
         for number in (signal.SIGTERM, signal.SIGINT, signal.SIGHUP):
             child = subprocess.Popen(self.maker.command(), stdout=subprocess.DEVNULL, stderr=subprocess.DEVNULL)
             while not [*self.maker.work.glob("*/rows.csv")]:

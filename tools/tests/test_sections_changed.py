@@ -37,7 +37,7 @@ def book_of(name: str, text: str) -> tuple[Path, Path]:
     listed = support.written(f"{name}.list", f"{path} {' '.join(PERIOD)}\n")
     folder = support.folder() / f"{name}-book"
     shutil.rmtree(folder, ignore_errors=True)
-    made = support.made(folder, "--list", str(listed), "--without-moves")[0]
+    made = support.made(folder, "--list", str(listed))[0]
     return made.book, made.table
 
 

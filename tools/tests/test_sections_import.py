@@ -13,7 +13,7 @@ LATER = "2025-07-01 00:00:00"
 
 
 class Import(unittest.TestCase):
-    """The small network; the stand-in is the program."""
+    """The small network; the program is that on the path of the tests."""
 
     def setUp(self) -> None:
         self.book = support.folder() / "import.db"
@@ -95,7 +95,7 @@ class Import(unittest.TestCase):
         self.assertEqual(at, ["2025-05-31T17:00:00-05:00", "2025-05-31T20:00:00-05:00"])
 
     def failing(self, status: int) -> Path:
-        """A program that is the stand-in but for imports, which end with a status."""
+        """A program that does all but imports, which end with a status."""
         path = support.folder() / f"failing-{status}"
         path.write_text(
             f'#!/bin/sh\n[ "$1" = import ] && {{ echo "no room" >&2; exit {status}; }}\nexec outagebook "$@"\n'

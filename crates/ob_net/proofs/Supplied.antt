@@ -18,7 +18,7 @@ use Rattle.ob_net.specs.Walk.{closed_among, is_connected, is_supplied}
 use Rattle.ob_net.proofs.Chains.{device_pair}
 use Rattle.ob_net.proofs.Connected.{connected_same, connected_to}
 use Rattle.ob_net.proofs.Forests.{alike_closed, closed_alike}
-use Rattle.ob_net.proofs.Searched.{grid_alike}
+use Rattle.ob_net.proofs.Searched.{grid_alike, node_alike}
 
 -- some device
 abbrev no_device : Device
@@ -42,25 +42,26 @@ past_end [] v l = refl
 past_end (x ∷ xs) zero l = absurd (omega (arith, l))
 past_end (x ∷ xs) (suc v) l = past_end xs v (omega (arith, l))
 
--- the nodes that are connected to GRID are supplied
-connected_at : (ds : List Device) (ps : List Pos) (has : ℕ → Bool) (v : ℕ) → IsComponent (ends_of ds) ps 0 has → has v ≡ is_connected (closed_among ds ps) v GRID
-connected_at ds ps has v h =
+-- the nodes that are connected to a node, by the test of walks
+pub connected_at : (ds : List Device) (ps : List Pos) (start : ℕ) (has : ℕ → Bool) (v : ℕ) → IsComponent (ends_of ds) ps start has → has v ≡ is_connected (closed_among ds ps) v start
+connected_at ds ps start has v h =
     let closed = closed_among ds ps in
     elim (cases_Bool (has v)) [
       | inl t ↦
-          let test : ℕ → Bool = λ u. is_connected closed u GRID in
-          t ∙ sym (h.least v t test (over_alike test ds ps (grid_alike closed)) ∙ connected_to closed GRID GRID refl)
-      | inr f ↦ elim (cases_Bool (is_connected closed v GRID)) [
-        | inl t ↦ absurd (true≢false (sym (connected_same has closed (alike_over has ds ps h.alike) v GRID t ∙ h.at) ∙ f))
+          let test : ℕ → Bool = λ u. is_connected closed u start in
+          t ∙ sym (h.least v t test (over_alike test ds ps (node_alike closed start)) ∙ connected_to closed start start refl)
+      | inr f ↦ elim (cases_Bool (is_connected closed v start)) [
+        | inl t ↦ absurd (true≢false (sym (connected_same has closed (alike_over has ds ps h.alike) v start t ∙ h.at) ∙ f))
         | inr n ↦ f ∙ sym n
       ]
     ]
 
+-- the nodes that are connected to GRID are supplied
 pub component_supplied : (net : Network) (ends : List (ℕ × ℕ)) (ps : List Pos) (live : List Bool) → ends ≡ ends_of net.devices → length live ≡ length net.nodes → IsComponent ends ps 0 (is_reached live) → live ≡ map (is_supplied net ps) (range_with_len 0 (length net.nodes))
 unfolding is_supplied
 component_supplied net ends ps live is count h =
     let here : IsComponent (ends_of net.devices) ps 0 (is_reached live) = subst (λ (q : List (ℕ × ℕ)). IsComponent q ps 0 (is_reached live)) is h in
-    fill_by_all (λ v. is_connected (closed_among net.devices ps) v GRID) live (length net.nodes) false count (λ v l. connected_at net.devices ps (is_reached live) v here)
+    fill_by_all (λ v. is_connected (closed_among net.devices ps) v GRID) live (length net.nodes) false count (λ v l. connected_at net.devices ps GRID (is_reached live) v here)
 
 -- and the other way round
 some_nodes : (net : Network) → IsNetwork net → 0 < length net.nodes
@@ -95,3 +96,15 @@ supplied_component net ends ps live same net_is is =
             | inr l ↦ absurd (true≢false (sym t ∙ past_end live v (omega (arith, long, l))))
           ];
     })
+
+-- the nodes that are supplied are those that are connected to GRID
+pub supplied_part : (net : Network) (ps : List Pos) → IsComponent (ends_of net.devices) ps 0 (is_supplied net ps)
+unfolding is_supplied
+supplied_part net ps =
+    let closed = closed_among net.devices ps in
+    let test : ℕ → Bool = λ v. is_connected closed v GRID in
+    record {
+      at = connected_to closed GRID GRID refl;
+      alike = over_alike test net.devices ps (grid_alike closed);
+      least = λ v t other alike. connected_same other closed (alike_over other net.devices ps alike) v GRID t;
+    }

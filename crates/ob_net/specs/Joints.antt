@@ -45,6 +45,12 @@ abbrev pub IsAlikeOver : (ℕ → Bool) → List (ℕ × ℕ) → List Pos → T
 IsAlikeOver test ends positions =
     (k : ℕ) → k < length ends → IsClosedAt positions k → test (ends_at ends k).0 ≡ test (ends_at ends k).1
 
+-- the same, of the closed devices with both ends in a set
+abbrev pub IsAlikeWithin : (ℕ → Bool) → (ℕ → Bool) → List (ℕ × ℕ) → List Pos → Type 0
+IsAlikeWithin has test ends positions =
+    (k : ℕ) → k < length ends → IsClosedAt positions k → IsTrue (has (ends_at ends k).0) → IsTrue (has (ends_at ends k).1)
+    → test (ends_at ends k).0 ≡ test (ends_at ends k).1
+
 -- each closed device at the node has its other end among the listed nodes
 abbrev pub AreFollowed : List (ℕ × ℕ) → List Pos → ℕ → List ℕ → Type 0
 AreFollowed ends positions v nodes =
@@ -55,11 +61,12 @@ AreFollowed ends positions v nodes =
 abbrev pub AreSame : (ℕ → Bool) → ℕ → List ℕ → Type 0
 AreSame test v nodes = All (λ w. test w ≡ test v) nodes
 
--- closed devices were followed from one node on: each listed node is connected to it, and the closed devices at the first
--- so many listed nodes lead to listed nodes
+-- closed devices were followed from one node on: each listed node is connected to it, by listed nodes alone too, and the
+-- closed devices at the first so many listed nodes lead to listed nodes
 pub record IsExplored (ends : List (ℕ × ℕ)) (positions : List Pos) (start : ℕ) (nodes : List ℕ) (next : ℕ) : Type 0 where
   pub begins : IsTrue (is_among nodes start)
   pub same : (test : ℕ → Bool) → IsAlikeOver test ends positions → AreSame test start nodes
+  pub within : (test : ℕ → Bool) → IsAlikeWithin (is_among nodes) test ends positions → AreSame test start nodes
   pub followed : (i : ℕ) → i < next → AreFollowed ends positions (slice_index_or nodes i 0) nodes
 
 -- the nodes that the closed devices connect to one node, and no other: a test that says the same of both ends of each

@@ -1,6 +1,6 @@
 //! Following closed devices from a node.
 ghost use Rattle.std.specs.Prelude.{◌≡◌, ◌≤◌, ◌<◌, ◌||◌, ℕ, Bool, IsTrue, false, length};
-ghost use Rattle.ob_net.specs.Joints.{AreFollowed, AreSame, IsAlikeOver, IsComponent, IsExplored};
+ghost use Rattle.ob_net.specs.Joints.{AreFollowed, AreSame, IsAlikeOver, IsAlikeWithin, IsComponent, IsExplored};
 ghost use Rattle.ob_net.specs.Nodes.{IsLonger, is_among};
 
 use crate::GRID;
@@ -17,6 +17,10 @@ pub fn follow(joints: &Joints, positions: &[Pos], node: u16, found: &mut NodeSet
     ensures longer { IsLonger found.old.nodes found.new.nodes }
     ensures followed { AreFollowed joints.now.ends positions.now node found.new.nodes }
     ensures same { (test : ℕ → Bool) (v : ℕ) → IsAlikeOver test joints.now.ends positions.now
+        → test node ≡ test v → AreSame test v found.old.nodes → AreSame test v found.new.nodes }
+    ensures within { (test : ℕ → Bool) (v : ℕ)
+        → IsAlikeWithin (is_among found.new.nodes) test joints.now.ends positions.now
+        → IsTrue (is_among found.old.nodes node)
         → test node ≡ test v → AreSame test v found.old.nodes → AreSame test v found.new.nodes }
 {
     let mut joint = joints.last(node);
@@ -41,6 +45,9 @@ pub fn finish(joints: &Joints, positions: &[Pos], from: usize, found: &mut NodeS
     ensures whole { (start : ℕ) → IsExplored joints.now.ends positions.now start found.old.nodes from
         → is_among found.new.nodes 0 ≡ false
         → IsComponent joints.now.ends positions.now start (is_among found.new.nodes) }
+    ensures explored { (start : ℕ)
+        → IsExplored joints.now.ends positions.now start found.old.nodes from
+        → IsExplored joints.now.ends positions.now start found.new.nodes from }
     ensures none_left { length found.old.nodes ≤ from → found.new.nodes ≡ found.old.nodes }
 {
     let mut next = from;

@@ -1,6 +1,7 @@
 //! The laws of the supply test, for proofs that call them. They do nothing when they run.
 ghost use Rattle.std.specs.Prelude.{◌↔◌, ℕ, List, IsTrue};
 ghost use Rattle.ob_net.specs.Apart.{ApartLaw};
+ghost use Rattle.ob_net.specs.CutOff.{CutOffLaw, JoinedLaw, StaysCutOffLaw, StaysJoinedLaw};
 ghost use Rattle.ob_base.specs.declared.Pos.{Pos as APos};
 ghost use Rattle.ob_net.specs.declared.net.Device.{Device as ADevice};
 ghost use Rattle.ob_net.specs.Network.{Network};
@@ -21,4 +22,21 @@ pub fn walk_law()
 /// other node is supplied depends on the other devices alone.
 pub fn apart_law()
     ensures { ApartLaw }
+{}
+
+/// States what a device cuts off: the nodes that other closed devices connect to an end of it, if
+/// neither GRID nor its other end is one of them. They are supplied through the device alone, and no
+/// other node's supply depends on its position. They are cut off until another device at one of
+/// them is moved.
+pub fn cut_off_law()
+    ensures supply { CutOffLaw }
+    ensures stays { StaysCutOffLaw }
+{}
+
+/// States when a device cuts nothing off: where other closed devices connect its two ends, no node's
+/// supply depends on its position. They connect them until one of the devices between the nodes of
+/// the way is opened.
+pub fn joined_law()
+    ensures supply { JoinedLaw }
+    ensures stays { StaysJoinedLaw }
 {}

@@ -1,5 +1,5 @@
 //! A set of nodes that is cleared in time proportional to the nodes in it.
-ghost use Rattle.std.specs.Prelude.{◌≡◌, ◌≢◌, ◌<◌, ◌≤◌, ℕ, [], IfOk, if◌then◌else◌, length};
+ghost use Rattle.std.specs.Prelude.{◌≡◌, ◌≢◌, ◌<◌, ◌≤◌, ◌||◌, ℕ, [], IfOk, if◌then◌else◌, length};
 ghost use Rattle.std.specs.List.{All, AllPairs};
 ghost use Rattle.ob_net.specs.Nodes.{is_among, with_one};
 ghost use Rattle.ob_net.specs.Reach.{is_reached};
@@ -71,6 +71,18 @@ impl NodeSet {
         if !self.marks[node as usize] {
             self.marks[node as usize] = true;
             self.nodes.push_reserved(node);
+        }
+    }
+
+    /// Puts several nodes into the set.
+    pub fn insert_all(&mut self, nodes: &[u16])
+        requires { All (λ v. v < self.old.size) nodes.now }
+        ensures size { self.new.size ≡ self.old.size }
+        ensures nodes { (v : ℕ) → is_among self.new.nodes v
+            ≡ (is_among self.old.nodes v || is_among nodes.now v) }
+    {
+        for node in nodes {
+            self.insert(*node);
         }
     }
 

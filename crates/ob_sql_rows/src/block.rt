@@ -18,9 +18,9 @@ pub struct MovedAmount {
     pub delta: i64,
 }
 
-/// Adds the rows of eight amounts that a command changed, in their order. Fails, and adds none, if
-/// one of them can't be added after those before it: if the command has a row for its dimension and
-/// key by then, if there is no such command, or if its `delta` is 0.
+/// Adds the rows of eight amounts that a command changed, in their order. Fails if one of them can't
+/// be added after those before it: if the command has a row for its dimension and key by then, if
+/// there is no such command, or if its `delta` is 0.
 pub fn add_moved_block<S: Alter>(
     tx: &mut Transaction<'_, S>,
     no: u32,

@@ -126,8 +126,10 @@ fn goes_on<O: Office>(
 ) -> Result<O, Stop> {
     let mut office = office;
     for (place, step) in steps.iter().enumerate() {
-        if let Step::Change(text) | Step::Tell(text) = step {
-            noted.last = *text;
+        match step {
+            Step::Change(text) => noted.last = *text,
+            Step::Tell(text) => noted.last = *text,
+            _ => {}
         }
         let (next, holds) = taken(rt, alloc, office, noted, step)?;
         let last = noted.last;

@@ -42,7 +42,7 @@ gone_all : (q : Entry → Bool) (old : Entry) (es : List Entry) → q old ≡ fa
 gone_all q old es none by h =
     each_as (λ f. f.«no» ≡ old.«no» → f.device ≡ old.device) (λ f. f.«no» ≡ old.«no» → q f ≡ false) es (λ f p is. by f (p is) ∙ none) h
 
-passes_same : (q : Entry → Bool) (device : ℕ) (change : SheetChange) (es : List Entry) → ((f : Entry) → f.device ≡ device → q f ≡ false)
+pub passes_same : (q : Entry → Bool) (device : ℕ) (change : SheetChange) (es : List Entry) → ((f : Entry) → f.device ≡ device → q f ≡ false)
     → OfNew (λ e. e.device ≡ device) change → OfOld (λ e. e.device ≡ device) change → AllByRecursion (IsOfDevice change) es
     → filter q (changed_order change es) ≡ filter q es
 passes_same q device (Entered new) es none is was h = put_other q new es (none new is)
@@ -52,7 +52,7 @@ passes_same q device (Corrected old new) es none is was h =
 passes_same q device (Withdrawn old) es none is was h =
     gone_other q old.«no» es (gone_all q old es (none old was) (λ f p. none f (p ∙ was) ∙ sym (none old was)) h)
 
-old_device : (change : SheetChange) → OfOld (λ e. e.device ≡ device_of change) change
+pub old_device : (change : SheetChange) → OfOld (λ e. e.device ≡ device_of change) change
 old_device (Entered new) = tt
 old_device (Corrected old new) = refl
 old_device (Withdrawn old) = refl

@@ -17,11 +17,11 @@ all sections from the first second on: switch I1 open 0 4 K2 => \
 1970-01-01 1 | - | switch B1 open 3600 3 K1; switch W1 open 4200 3 K1; switch T1 close 4200 3 K1; \
     switch B1 close 7200 3 K1
 entered late before an earlier opening: switch W1 open 3000 4 K2 => \
-    5 4: S2: S1 3600 7200 1; S2 3000 4200 5; S4 0 86400 -;
+    5 3: S2: S1 3600 7200 1; S2 3000 4200 5; S4 0 86400 -;
 the closing is corrected to an earlier second: correct 4 1 close 6600 3 K2 => \
     5 2: S1: S1 3600 6600 1; S2 3600 4200 1; S4 0 86400 -;
 the closing of the tie is withdrawn: withdraw 3 1 => \
-    4 3: S2: S1 3600 7200 1; S2 3600 86400 1; S4 0 86400 -;
+    4 2: S2: S1 3600 7200 1; S2 3600 86400 1; S4 0 86400 -;
 the cause alone is corrected: correct 1 1 open 3600 4 K2 => \
     5 5:: S1 3600 7200 1; S2 3600 4200 1; S4 0 86400 -;
 an opening is corrected to a closing: correct 1 1 close 3600 3 K2 => 3 3: S1 S2: S4 0 86400 -;
@@ -30,7 +30,7 @@ a closing of a closed breaker: switch B1 close 3000 4 K2 => \
     5 0:: S1 3600 7200 1; S2 3600 4200 1; S4 0 86400 -;
 1970-01-01 1 | - | switch B1 open 3600 3 K1; switch W1 close 4000 3 K1; switch B1 close 7200 3 K1
 another cutter past the next entry of the switch: switch W1 open 3000 4 K2 => \
-    5 4: S2: S1 3600 7200 1; S2 3000 7200 4; S4 0 86400 -;
+    5 3: S2: S1 3600 7200 1; S2 3000 7200 4; S4 0 86400 -;
 1970-01-01 1 | - | switch B2 open 3600 3 K1; switch B2 close 4200 3 K1
 an opening is corrected past its closing: correct 1 1 open 5000 3 K2 => \
     2 2: S3: S3 5000 86400 1; S4 0 86400 -;

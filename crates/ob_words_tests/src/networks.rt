@@ -2,10 +2,14 @@
 //! limits are tested in `ob_total_tests`.
 ghost use Rattle.std.specs.Prelude.{◌≤◌};
 ghost use Rattle.ob_net.specs.Supplies.{IsOf};
+ghost use Rattle.ob_net.specs.Traces.{IsTracerOf};
 
 use ob_command::{Command, NewDevice, read_body};
 use ob_net::Pos::{Closed, Opened};
-use ob_net::{Name, Net, Node, Pos, Refusal, Stop, Supply, apart_law, grid, walk_law};
+use ob_net::{
+    Name, Net, Node, Pos, Refusal, Stop, Supply, Tracer, apart_law, cut_off_law, grid, joined_law,
+    walk_law,
+};
 use std::alloc::Global;
 use std::process::Abort;
 use std::test::Fail;
@@ -117,6 +121,7 @@ fn nodes_and_devices(rt: HostRuntime) -> Result<(), Fail> {
         (b"S4", None, None),
     ];
     has_parts(&rt, &net, parts)?;
+    assert!(rt; net.nodes_of(1) == (2, 0));
     let Node { name, feeder } = grid();
     assert!(rt; name.bytes() == b"GRID".as_slice() && feeder == None);
     Ok(())
@@ -312,6 +317,76 @@ fn nodes_near_a_device(rt: HostRuntime) -> Result<(), Fail> {
     for line in &NEAR {
         finds_near(&rt, rt.alloc(), &net, line)?;
     }
+    Ok(())
+}
+
+// Positions of the devices CB-A, CB-B, D1, D2, D3 and TIE; the number of a device; the end of it
+// that is cut off where it is open, and its other end; which of the nodes GRID, BUS-A, BUS-B, S1, S2
+// and S3 are found; how many of its ends each device has among them; and which nodes are supplied.
+type Cut = (
+    &'static [u8; 6],
+    u16,
+    Option<(u16, u16)>,
+    &'static [u8; 6],
+    &'static [u8; 6],
+    &'static [u8; 6],
+);
+
+// A switch between bus and section, a breaker, and a switch between two sections that is open; a tie
+// between two feeders without supply; then the ends that another way connects, by GRID.
+const CUTS: [Cut; 6] = [
+    (b"ccccco", 2, Some((3, 1)), b"---++-", b"001201", b"++++++"),
+    (b"ccccco", 1, Some((2, 0)), b"--+--+", b"010021", b"++++++"),
+    (b"cccoco", 3, Some((4, 3)), b"----+-", b"000101", b"++++-+"),
+    (b"oocccc", 5, Some((5, 4)), b"--+--+", b"010021", b"+-----"),
+    (b"cccccc", 2, None, b"++++++", b"222222", b"++++++"),
+    (b"ccccco", 5, None, b"++++++", b"222222", b"++++++"),
+];
+
+fn cuts_off(
+    rt: &impl Abort,
+    alloc: Global,
+    net: &mut Net,
+    tracer: &mut Tracer,
+    line: &Cut,
+) -> Result<(), Fail>
+    requires of { IsTracerOf net.old.network tracer.old }
+    ensures of { IsTracerOf net.new.network tracer.new }
+{
+    let (text, device, wanted, found, ends, live) = *line;
+    let mut positions = Vec::new(alloc);
+    for byte in text {
+        positions.push(if *byte == b'c' { Closed } else { Opened })?;
+    }
+    assert!(rt; net.nodes() == 6 && net.devices() == 6 && device < 6 && positions.len() == 6);
+    let cut = net.cut_off(tracer, device, &mut positions);
+    assert!(rt; cut.map(|cut| (cut.end, cut.other)) == wanted);
+    for node in 0..6u16 {
+        assert!(rt; tracer.found().contains(&node) == (found[usize::from(node)] == b'+'));
+    }
+    for number in 0..6u16 {
+        let ends = ends[usize::from(number)];
+        assert!(rt; net.is_at_found(tracer, number) == (ends != b'0'));
+        assert!(rt; net.is_within_found(tracer, number) == (ends == b'2'));
+    }
+    let mut supplied = [false; 6];
+    net.supplied_among(tracer, &positions, &[0, 1, 2, 3, 4, 5], &mut supplied);
+    for (found, wanted) in supplied.iter().zip(live) {
+        assert!(rt; *found == (*wanted == b'+'));
+    }
+    Ok(())
+}
+
+#[test]
+fn what_a_device_cuts_off(rt: HostRuntime) -> Result<(), Fail> {
+    cut_off_law();
+    joined_law();
+    let mut net = meshed(&rt, rt.alloc())?;
+    let mut tracer = net.tracer()?;
+    for line in &CUTS {
+        cuts_off(&rt, rt.alloc(), &mut net, &mut tracer, line)?;
+    }
+    assert!(rt; net.searches() == 6);
     Ok(())
 }
 

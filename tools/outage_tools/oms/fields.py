@@ -2,6 +2,7 @@
 
 import re
 from datetime import date, datetime, time, timedelta, timezone
+from functools import lru_cache
 
 from outage_tools.oms.complaints import BadRow
 from outage_tools.zone import EPOCH, SECOND, Zone
@@ -23,10 +24,16 @@ def shown(text: str) -> str:
     return repr(text if len(text) <= SHOWN else f"{text[:SHOWN]}..")
 
 
+@lru_cache(maxsize=None)
+def names_up_to(most: int) -> re.Pattern[str]:
+    """The names of at most so many characters."""
+    return re.compile(f"[A-Z0-9_-]{{1,{most}}}")
+
+
 def identifier(text: str, most: int, what: str) -> str:
     """A name in capitals: letters, digits, - and _."""
     name = text.upper()
-    if not re.fullmatch(f"[A-Z0-9_-]{{1,{most}}}", name) or not text.isascii():
+    if not names_up_to(most).fullmatch(name) or not text.isascii():
         raise BadRow(f"{what} {shown(text)} isn't 1 to {most} of A-Z, 0-9, - and _")
     return name
 
@@ -41,6 +48,7 @@ def number(text: str, most: int, what: str) -> int:
     return int(match.group(1))
 
 
+@lru_cache(maxsize=1_000)
 def read_zone(text: str) -> Zone:
     """The clock of a POSIX rule."""
     try:
@@ -119,6 +127,7 @@ def civil_of(text: str, formats: tuple[str, ...], what: str) -> Civil:
     return found[0]
 
 
+@lru_cache(maxsize=50_000)  # registers have many services that begin on one day, and a check reads a file twice
 def read_moment(
     text: str, hour: str, zone: Zone | None, what: str, formats: tuple[str, ...] = (), wants_clock: bool = False
 ) -> int:

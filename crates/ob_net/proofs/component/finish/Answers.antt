@@ -1,5 +1,5 @@
 use Rattle.std.proofs.Common.{ℕ, ◌<◌, List, ap, length, arith, ◌∙◌}
-use Rattle.ob_net.proofs.Components.{component_of, explored_more}
+use Rattle.ob_net.proofs.Components.{component_of, explored_less, explored_more}
 use Rattle.ob_net.proofs.component.finish.Goals as goal
 
 pub loop-next-preserved : goal.loop-next-preserved
@@ -12,7 +12,7 @@ loop-next-preserved c =
       size = c.follow.ensures.size ∙ before.size;
       explored = λ start h.
           explored_more c.args.joints.now.ends c.args.positions.now start old c.follow.new.found.nodes next l c.follow.ensures.longer
-          (rw c.nodes.ensures.nodes at c.follow.ensures.followed) (rw c.nodes.ensures.nodes at c.follow.ensures.same) (before.explored start h);
+          (rw c.nodes.ensures.nodes at c.follow.ensures.followed) (rw c.nodes.ensures.nodes at c.follow.ensures.same) (rw c.nodes.ensures.nodes at c.follow.ensures.within) (before.explored start h);
       kept = λ none. let same = ap length (before.kept none) in absurd (omega (arith, same, none, before.on, l));
       on = omega (arith, before.on);
     }
@@ -27,3 +27,11 @@ pub returns-after-loop-next-clause-whole : goal.returns-after-loop-next-clause-w
 returns-after-loop-next-clause-whole c = λ start h none.
     component_of c.args.joints.now.ends c.args.positions.now start c.loop-next.found.nodes c.loop-next.next
     (omega (arith, c.loop-next-test.false, c.len.ensures.count)) (c.loop-next.invariant.explored start h)
+
+pub returns-else-not-has-clause-explored : goal.returns-else-not-has-clause-explored
+returns-else-not-has-clause-explored c = λ start h.
+    explored_less c.args.joints.now.ends c.args.positions.now start c.loop-next.found.nodes c.args.from c.loop-next.next c.loop-next.invariant.on (c.loop-next.invariant.explored start h)
+
+pub returns-after-loop-next-clause-explored : goal.returns-after-loop-next-clause-explored
+returns-after-loop-next-clause-explored c = λ start h.
+    explored_less c.args.joints.now.ends c.args.positions.now start c.loop-next.found.nodes c.args.from c.loop-next.next c.loop-next.invariant.on (c.loop-next.invariant.explored start h)

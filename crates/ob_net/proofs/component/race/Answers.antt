@@ -15,8 +15,9 @@ loop-next-preserved c =
       other_size = c.follow-in-loop-next.ensures.size ∙ before.other_size;
       explored = λ start h.
           explored_more c.args.joints.now.ends c.args.positions.now start one c.follow.new.found.nodes next l c.follow.ensures.longer
-          (rw c.nodes.ensures.nodes at c.follow.ensures.followed) (rw c.nodes.ensures.nodes at c.follow.ensures.same) (before.explored start h);
+          (rw c.nodes.ensures.nodes at c.follow.ensures.followed) (rw c.nodes.ensures.nodes at c.follow.ensures.same) (rw c.nodes.ensures.nodes at c.follow.ensures.within) (before.explored start h);
       other_explored = λ start h.
           explored_more c.args.joints.now.ends c.args.positions.now start other c.follow-in-loop-next.new.found.nodes next m c.follow-in-loop-next.ensures.longer
-          (rw c.nodes-in-loop-next.ensures.nodes at c.follow-in-loop-next.ensures.followed) (rw c.nodes-in-loop-next.ensures.nodes at c.follow-in-loop-next.ensures.same) (before.other_explored start h);
+          (rw c.nodes-in-loop-next.ensures.nodes at c.follow-in-loop-next.ensures.followed) (rw c.nodes-in-loop-next.ensures.nodes at c.follow-in-loop-next.ensures.same)
+          (rw c.nodes-in-loop-next.ensures.nodes at c.follow-in-loop-next.ensures.within) (before.other_explored start h);
     }
