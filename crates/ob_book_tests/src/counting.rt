@@ -27,6 +27,11 @@ impl Timeline for Counting {
         Ok(Counting { inner, adopted: 0 })
     }
 
+    fn try_copy(&self) -> Result<Self, Stop> {
+        let inner = self.inner.try_copy()?;
+        Ok(Counting { inner, adopted: 0 })
+    }
+
     fn runs_of(&self, section: u16) -> &[Run] {
         self.inner.runs_of(section)
     }

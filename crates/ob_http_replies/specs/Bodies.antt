@@ -1,5 +1,5 @@
 -- The JSON bodies of replies, RFC 8259: members in the order of their names, and no space.
-use Rattle.std.specs.Prelude.{ℕ, List, Option, Some, None, map, codes}
+use Rattle.std.specs.Prelude.{ℕ, ◌++◌, List, [], ◌∷◌, Option, Some, None, map, codes}
 use Rattle.serde_json.specs.Data.{Data, null, boolean, number, unsigned, string, array, object, no_items, item, Members, no_members, member}
 use Rattle.serde_json.specs.Find.{of_integer}
 use Rattle.serde_json.specs.View.{items_of}
@@ -76,3 +76,22 @@ entry_data e device = object
 -- the text of an entry of the device with a name
 abbrev pub entry_text : Entry → List ℕ → List ℕ
 entry_text e device = compact_text (entry_data e device)
+
+-- texts with a comma before each
+abbrev pub after_commas : List (List ℕ) → List ℕ
+after_commas [] = []
+after_commas (text ∷ texts) = codes "," ++ text ++ after_commas texts
+
+-- `[..,..]`: these texts as the items of a list
+abbrev pub list_text : List (List ℕ) → List ℕ
+list_text [] = codes "[]"
+list_text (text ∷ texts) = codes "[" ++ text ++ after_commas texts ++ codes "]"
+
+-- what steps would do, and then why the next one is refused, where one is
+abbrev pub with_refusal : List (List ℕ) → Option Refusal → List (List ℕ)
+with_refusal plans None = plans
+with_refusal plans (Some refusal) = plans ++ refused_text refusal ∷ []
+
+-- `[{"moved":..,"sections":..},..,{"name":"Stale","refused":7}]`
+abbrev pub steps_text : List (List ℕ) → Option Refusal → List ℕ
+steps_text plans refusal = list_text (with_refusal plans refusal)

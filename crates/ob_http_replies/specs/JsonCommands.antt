@@ -1,9 +1,10 @@
 -- Commands as JSON, RFC 8259: an object whose members are texts under the names of a row's columns. A plan's may lack the reference.
-use Rattle.std.specs.Prelude.{◌≡◌, ℕ, ◌+◌, ◌&&◌, Bool, true, List, [], ◌∷◌, map, min, Option, Some, None, Result, Ok, Err, codes, unwrap_or, if◌then◌else◌, MatchBool}
+use Rattle.std.specs.Prelude.{◌≡◌, ℕ, ◌+◌, ◌&&◌, nat_le, Bool, true, List, [], ◌∷◌, length, map, min, Option, Some, None, option_map, Result, Ok, Err, codes, unwrap_or, if◌then◌else◌, MatchBool}
+use Rattle.std.specs.Option.{option_and_then}
 use Rattle.std.specs.List.{list_any}
 use Rattle.std.specs.Str.{bytes_eq, is_utf8}
-use Rattle.serde_json.specs.Data.{Data, Members, no_members, member}
-use Rattle.serde_json.specs.Find.{as_object, as_str, get}
+use Rattle.serde_json.specs.Data.{Data, Items, no_items, item, Members, no_members, member}
+use Rattle.serde_json.specs.Find.{as_array, as_object, as_str, get}
 use Rattle.serde_json.specs.Read.{read}
 use Rattle.ob_base.specs.declared.stop.Fault.TheVariants.{OutOfMemory}
 use Rattle.ob_base.specs.declared.stop.Refusal.{Refusal}
@@ -13,6 +14,8 @@ use Rattle.ob_base.specs.declared.stop.Stop.TheVariants as stops
 use Rattle.ob_csv.specs.Header.{header}
 use Rattle.ob_command.specs.Fields.{IsRow}
 use Rattle.ob_command.specs.declared.command.Command.{Command}
+use Rattle.ob_base.specs.Stop.{out_of_memory}
+use Rattle.ob_http_replies.specs.declared.steps.Steps.{Steps}
 
 -- the value that a body is, where it is UTF-8 and JSON
 abbrev pub json_in : List ℕ → Option Data
@@ -102,3 +105,46 @@ JsonCommandsSayOneThing = (body : List ℕ) (a b : Result (List ℕ × Command) 
 -- a plan's body says one thing
 abbrev pub JsonPlansSayOneThing : Type 0
 JsonPlansSayOneThing = (body : List ℕ) (a b : Result Command Refusal) → IsJsonPlan body a → IsJsonPlan body b → a ≡ b
+
+-- the items one after another
+abbrev pub in_list : Items → List Data
+in_list no_items = []
+in_list (item d ds) = d ∷ in_list ds
+
+-- the items, where there are at most 64
+abbrev pub at_most_64 : Option (List Data) → Option (List Data)
+at_most_64 None = None
+at_most_64 (Some items) = if nat_le (length items) 64 then Some items else None
+
+-- the items of a body that is a JSON list of at most 64
+abbrev pub items_in : List ℕ → Option (List Data)
+items_in body = at_most_64 (option_map in_list (option_and_then as_array (json_in body)))
+
+-- the commands and the refusal go on with what an item says: its command first, or nothing behind its refusal
+abbrev pub GoesOn : Result (List ℕ × Command) Refusal → (List Command → Option Refusal → Type 0) → List Command → Option Refusal → Type 0
+GoesOn (Ok said) Rest [] unread = ⊥
+GoesOn (Ok said) Rest (command ∷ commands) unread = (command ≡ said.1) × Rest commands unread
+GoesOn (Err refusal) Rest commands unread = (commands ≡ []) × (unread ≡ Some refusal)
+
+-- this is what the items say, each as a plan's command, up to the first that says none, and why that one doesn't
+abbrev pub AreSteps : List Data → List Command → Option Refusal → Type 0
+AreSteps [] commands unread = (commands ≡ []) × (unread ≡ None)
+AreSteps (d ∷ ds) commands unread =
+    (said : Result (List ℕ × Command) Refusal) × IsObjectOf (with_reference (codes "-")) (as_object d) d said × GoesOn said (AreSteps ds) commands unread
+
+-- this is what was read of a list of steps
+abbrev pub AreReadSteps : Option (List Data) → Option Steps → Type 0
+AreReadSteps None None = ⊤
+AreReadSteps (Some items) (Some steps) = AreSteps items steps.commands.items steps.unread
+AreReadSteps None (Some steps) = ⊥
+AreReadSteps (Some items) None = ⊥
+
+-- what a body says that is such a list
+abbrev pub ReadsSteps : List ℕ → Result (Option Steps) Stop → Type 0
+ReadsSteps body (Ok steps) = AreReadSteps (items_in body) steps
+ReadsSteps body (Err stop) = stop ≡ out_of_memory
+
+-- a list of items says one thing
+abbrev pub StepsSayOneThing : Type 0
+StepsSayOneThing =
+    (items : List Data) (some others : List Command) (r s : Option Refusal) → AreSteps items some r → AreSteps items others s → (some ≡ others) × (r ≡ s)

@@ -62,7 +62,7 @@ fn read(alloc: Global, body: &[u8], reference: &[u8]) -> Result<(Ref, Command), 
 // The JSON value of a body; None if the body isn't UTF-8 or isn't JSON. Fails only if an allocation
 // fails.
 #[tactic(auto, using(crate::proofs::Values::json_is, crate::proofs::Values::json_is_none))]
-fn json(alloc: Global, body: &[u8]) -> Result<Option<Value>, Stop>
+pub(crate) fn json(alloc: Global, body: &[u8]) -> Result<Option<Value>, Stop>
     ensures value { IfOk result (λ v. option_map view v ≡ json_in body.now) }
     ensures err { IfErr result (λ stop. stop ≡ out_of_memory) }
 {
@@ -78,7 +78,7 @@ fn json(alloc: Global, body: &[u8]) -> Result<Option<Value>, Stop>
     }
 }
 
-fn command_of<'v>(value: &'v Value, reference: &'v [u8]) -> Result<(Ref, Command), Refusal>
+pub(crate) fn command_of<'v>(value: &'v Value, reference: &'v [u8]) -> Result<(Ref, Command), Refusal>
     ensures { IsObjectOf (with_reference reference.now) (as_object (view value.now))
         (view value.now) result }
 {

@@ -10,11 +10,15 @@
 mod body;
 mod command;
 mod constant;
+mod list;
 mod reply;
 mod status;
+mod steps;
 
 pub use body::{accepted_text, entry_text, refused_text, report_text};
 pub use command::{json_commands_law, json_plans_law, read_command, read_plan};
 pub use constant::empty_reply;
+pub use list::steps_text;
 pub use reply::{MediaType, reply_text};
 pub use status::{Allow, Status, refusal_status, report_status};
+pub use steps::{MOST_STEPS, Steps, read_steps, steps_law};

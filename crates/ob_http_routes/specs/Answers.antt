@@ -1,5 +1,6 @@
 -- What the desk answers a request, and the state of the book after it.
 use Rattle.std.specs.Prelude.{◌≡◌, ℕ, Bool, List, [], map, Option, Some, None, option_map, unwrap_or, slice_get, Result, Ok, Err}
+use Rattle.serde_json.specs.Data.{Data}
 use Rattle.ob_base.specs.declared.stop.Refusal.{Refusal}
 use Rattle.ob_sheet.specs.declared.Entry.{Entry}
 use Rattle.ob_sheet.specs.Order.{entry_of}
@@ -8,6 +9,7 @@ use Rattle.ob_command.specs.declared.command.Command.{Command}
 use Rattle.ob_state.specs.State.{BookState}
 use Rattle.ob_book.specs.Acts.{ActState, Referenced, Reply, act, answer}
 use Rattle.ob_book.specs.Forecasts.{plan_of}
+use Rattle.ob_book.specs.Steps.{StepPlans, plans_in_turn}
 use Rattle.ob_book.specs.Supplies.{supply_text_of}
 use Rattle.ob_book.specs.Views.{annual_table_of_book, indices_text_of_book, totals_of_book}
 use Rattle.ob_store.specs.Acting.{under}
@@ -17,8 +19,8 @@ use Rattle.ob_import.specs.Imports.{Import, Imports}
 use Rattle.ob_http_requests.specs.Message.{Message, path_of}
 use Rattle.ob_http_requests.specs.declared.framing.Method.{Method}
 use Rattle.ob_http_requests.specs.declared.framing.Method.TheVariants as methods
-use Rattle.ob_http_replies.specs.Bodies.{accepted_text, entry_text, refused_text, report_text}
-use Rattle.ob_http_replies.specs.JsonCommands.{IsJsonCommand, IsJsonPlan}
+use Rattle.ob_http_replies.specs.Bodies.{accepted_text, entry_text, refused_text, report_text, steps_text}
+use Rattle.ob_http_replies.specs.JsonCommands.{AreSteps, IsJsonCommand, IsJsonPlan, items_in}
 use Rattle.ob_http_replies.specs.Reply.{reply_text}
 use Rattle.ob_http_replies.specs.Status.{refusal_status, report_status}
 use Rattle.ob_http_replies.specs.declared.reply.MediaType.{MediaType}
@@ -135,9 +137,24 @@ abbrev pub plan_answer : BookState → Result Command Refusal → Answer
 plan_answer b (Ok command) = planned (plan_of b command)
 plan_answer b (Err refusal) = refused refusal
 
--- this is the answer to a body that says which command is to be planned
+-- why the steps of a list end before its end, if they do: the next one is refused in its turn, or else says no command
+abbrev pub first_refusal : Option Refusal → Option Refusal → Option Refusal
+first_refusal (Some refusal) unread = Some refusal
+first_refusal None unread = unread
+
+-- the answer to steps that are planned so, where the next item says no command for a reason, or there is none
+abbrev pub steps_planned : StepPlans → Option Refusal → Answer
+steps_planned p unread = found types.Json (Some (steps_text (map forecast_text p.forecasts) (first_refusal p.refused unread)))
+
+-- this is the answer to a body of these items, or to one that is no list of steps and says which command is to be planned
+abbrev pub IsAnswerPlanned : BookState → List ℕ → Option (List Data) → Answer → Type 0
+IsAnswerPlanned b body None a = (said : Result Command Refusal) × IsJsonPlan body said × (a ≡ plan_answer b said)
+IsAnswerPlanned b body (Some items) a =
+    (commands : List Command) × (unread : Option Refusal) × AreSteps items commands unread × (a ≡ steps_planned (plans_in_turn b commands) unread)
+
+-- this is the answer to a body that says what is to be planned
 abbrev pub IsPlanAnswer : BookState → List ℕ → Answer → Type 0
-IsPlanAnswer b body a = (said : Result Command Refusal) × IsJsonPlan body said × (a ≡ plan_answer b said)
+IsPlanAnswer b body a = IsAnswerPlanned b body (items_in body) a
 
 -- the answer to a POST to a route, and the state after it
 abbrev pub PostAnswers : ActState → Route → List ℕ → Answer → ActState → Type 0

@@ -46,6 +46,17 @@ impl Postings {
         })
     }
 
+    /// A copy, with the same amounts. The error is a failed allocation.
+    pub fn try_copy(&self) -> Result<Postings, Stop>
+        ensures amounts { IfOk result (λ p. p ≡ self.now) }
+        ensures err { IfErr result (λ stop. stop ≡ out_of_memory) }
+    {
+        let alloc = *self.amounts.allocator();
+        Ok(Postings {
+            amounts: self.amounts.to_vec(alloc)?,
+        })
+    }
+
     /// The amount under a key.
     pub fn amount(&self, dim: Dim, key: u16) -> u64
         requires { IsKey (day_count self.now) dim key }

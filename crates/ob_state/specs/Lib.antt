@@ -7,3 +7,4 @@ pub mod Retimings
 pub mod Effects
 pub mod Searches
 pub mod Resolved
+pub mod Logs

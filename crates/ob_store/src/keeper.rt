@@ -15,7 +15,7 @@ use crate::reply::Reply;
 use crate::stored::reply_at;
 use crate::whole::{Halted, act_all_on};
 use ob_base::{Fault, Ref, Refusal, Stop};
-use ob_book::{Book, Command};
+use ob_book::{Book, Command, Planned};
 use ob_sql_read::{Progress, Silent, Work};
 use ob_sql_rows::Table;
 use ob_sweep::Timeline;
@@ -49,11 +49,13 @@ impl<S: Alter, T: Timeline> Keeper<S, T> {
     ghost use Rattle.ob_base.specs.declared.stop.Refusal.{Refusal as ARefusal};
     ghost use Rattle.ob_base.specs.declared.stop.Fault.{Fault as AFault};
     ghost use Rattle.ob_base.specs.declared.stop.Stop.{Stop as AStop};
+    ghost use Rattle.ob_base.specs.Stop.{out_of_memory};
     ghost use Rattle.ob_state.specs.State.{BookState};
     ghost use Rattle.ob_state.specs.Refusals.{refusal as refusal_to};
-    ghost use Rattle.ob_state.specs.Searches.{most_searches};
+    ghost use Rattle.ob_state.specs.Searches.{all_searches, most_searches};
     ghost use Rattle.ob_book.specs.Acts.{ActState};
     ghost use Rattle.ob_book.specs.Forecasts.{forecast_text_of};
+    ghost use Rattle.ob_book.specs.Steps.{ArePlanned};
     ghost use Rattle.ob_book.specs.Searches.{searches_of_act};
     ghost use Rattle.ob_upgrade.specs.Laws.{AcceptedByBoth, SameFigures};
     ghost use Rattle.ob_sql_rows.specs.Steps.{IsStoreFault};
@@ -399,6 +401,27 @@ impl<S: Alter, T: Timeline> Keeper<S, T> {
         let parts = &mut self.parts;
         match &mut parts.book {
             Some(book) => book.plan_text(command),
+            None => Err(Stop::Fault(Fault::Reopen)),
+        }
+    }
+
+    /// What each of some steps would do on what those before it leave, up to the first that is
+    /// refused: `ob_book::Book::plan_steps`. Nothing is entered or written. `Fault::Reopen` if the
+    /// keeper has no book; the only other fault is a failed allocation.
+    pub fn plan_steps(&mut self, steps: &[Command]) -> Result<Planned, Stop>
+        ensures reopen { (book_of self.old ≡ None) ↔ (result ≡ Err (Stop.Fault Fault.Reopen)) }
+        ensures conn { connection_of self.new ≡ connection_of self.old }
+        ensures book { book_of self.new ≡ book_of self.old }
+        ensures unopened { book_of self.old ≡ None → self.new ≡ self.old }
+        ensures searches { (s : BookState) → book_of self.old ≡ Some s
+            → searches_of self.new ≤ searches_of self.old + all_searches T.bound s steps.now }
+        ensures err { IsSome (book_of self.old) → IfErr result (λ stop. stop ≡ out_of_memory) }
+        ensures planned { (b : BookState) → book_of self.old ≡ Some b
+            → IfOk result (ArePlanned b steps.now) }
+    {
+        let parts = &mut self.parts;
+        match &mut parts.book {
+            Some(book) => book.plan_steps(steps),
             None => Err(Stop::Fault(Fault::Reopen)),
         }
     }
