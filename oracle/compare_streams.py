@@ -20,7 +20,16 @@ from pathlib import Path
 from make_commands import calls_of, period_of, text_of
 from model import Book, first_difference
 from over_program import CREATED, SOUND, Difference, OneBook
-from served import Request, answer_of, command_request, plan_requests, reply_data, supply_request, view_requests
+from served import (
+    Request,
+    answer_of,
+    command_request,
+    plan_requests,
+    reply_data,
+    steps_request,
+    supply_request,
+    view_requests,
+)
 from state import Period
 
 
@@ -35,9 +44,12 @@ def requests_of(seed: int, book: Book) -> Iterator[list[Request]]:
 
 
 def planned_and_sent(book: Book, calls: Sequence[list[str]], rng: random.Random) -> Iterator[Request]:
-    """Each command as a plan and then as a command, and now and then the supply at a second."""
-    for row in calls:
+    """Each command as a plan and then as a command, now and then some as steps before, and the supply at a second."""
+    for place, row in enumerate(calls):
         yield from plan_requests(row, rng)
+        if rng.random() < 0.2:
+            about_entries = [each for each in calls[place:] if each[0] in ("switch", "correct", "withdraw")]
+            yield steps_request(rng.choice([calls[place:], about_entries])[: rng.randrange(12)], rng)
         yield command_request(row, rng.random() < 0.2)
         yield from supply_requests(book, rng.choice([0, 0, 0, 1]), rng)
 
@@ -92,7 +104,8 @@ def wanted_of(book: Book, requests: Sequence[Request]) -> bytes:
 def count(counts: Counter[str], requests: Sequence[Request]) -> None:
     """Counts the plans and the questions about the supply at a second among requests."""
     for request in requests:
-        counts["plans of commands"] += request.target == "/plan"
+        counts["plans of commands"] += request.target == "/plan" and request.body[:1] == b"{"
+        counts["plans of steps"] += request.target == "/plan" and request.body[:1] == b"["
         counts["questions about the supply"] += request.target.startswith("/supply/")
 
 

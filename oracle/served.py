@@ -8,11 +8,12 @@ from fractions import Fraction
 
 from commands import HEADER, NAMES, Refusal, RowRefusal
 from model import DIMENSIONS, Book, Move, quotient_text
-from plans import plan_of
+from plans import Plan, plan_of, steps_of
 from state import Imported, Period
 from supplies import supply_of
 
 CONFLICTS = (3, 7, 8, 11, 13, 14)  # the refusals that the book as it is now is the reason of
+MOST_STEPS = 64  # of a plan
 REASONS = {200: "OK", 404: "Not Found", 409: "Conflict", 422: "Unprocessable Entity"}
 
 Answer = tuple[int, str, str]  # status, media type, body
@@ -46,6 +47,14 @@ def plan_requests(row: Sequence[str], rng: random.Random) -> Iterator[Request]:
         place = rng.randrange(6)
         fields[place] = rng.choice(["", "*", "1", "GRID", "100000000000", *fields])
         yield command_request([kind, "", *fields], False, "/plan")
+
+
+def steps_request(rows: Sequence[Sequence[str]], rng: random.Random) -> Request:
+    """Commands as the steps of a plan, and now and then an item that is none."""
+    items: list[object] = [{name: text for name, text in zip(HEADER, row) if text} for row in rows]
+    if rng.random() < 0.1:
+        items.insert(rng.randrange(len(items) + 1), rng.choice([None, 7, "", [], {}]))
+    return Request("POST", "/plan", json.dumps(items).encode())
 
 
 def supply_request(period: Period, seconds: Sequence[int], rng: random.Random) -> Request:
@@ -162,13 +171,30 @@ def refused_answer(refusal: Refusal) -> Answer:
 
 
 def plan_answer(book: Book, body: bytes) -> Answer:
-    """The answer to a command that is only planned."""
+    """The answer to a command that is only planned, or to a list of steps."""
+    found = json.loads(body)
+    if isinstance(found, list) and len(found) <= MOST_STEPS:
+        return steps_answer(book, found)
+    if isinstance(found, list):
+        return refused_answer(Refusal(1, 0))
     try:
         plan = plan_of(book, row_of(body))
     except Refusal as refusal:
         return refused_answer(refusal)
+    return 200, "application/json", text_of_json(plan_members(plan))
+
+
+def steps_answer(book: Book, items: Sequence[object]) -> Answer:
+    """The answer to a list of steps: what each would do on what those before it leave, and the refusal that ends it."""
+    rows = [[item.get(name, "") for name in HEADER] if isinstance(item, dict) else None for item in items]
+    plans, refusal = steps_of(book, rows)
+    refused = [refused_members(refusal)] if refusal else []
+    return 200, "application/json", text_of_json([*map(plan_members, plans), *refused])
+
+
+def plan_members(plan: Plan) -> dict[str, object]:
     sections = [{"section": c.section, "before": c.before, "after": c.after} for c in plan.sections]
-    return 200, "application/json", text_of_json({"moved": moved_rows(plan.moved), "sections": sections})
+    return {"moved": moved_rows(plan.moved), "sections": sections}
 
 
 def command_answer(book: Book, body: bytes) -> Answer:

@@ -10,6 +10,8 @@ from .desk import Answer, Away
 from .reader import Moves
 from .state import Refused
 
+TOO_OLD = "the program of the book's server is older than this screen: it doesn't plan"
+Step = Sequence[str]  # a command's kind and its fields
 Interval = tuple[int, int, int]  # seconds without supply, from one up to another; the entry that cut off (0: none did)
 
 
@@ -63,8 +65,15 @@ class NotPlanned(Exception):
 
 def command_body(kind: str, fields: Sequence[str], ref: str = "") -> bytes:
     """A command as the desk reads it; an end that is none is left out."""
-    told = members_of(kind, fields) | {"ref": ref}
-    return json.dumps({name: text for name, text in told.items() if text not in ("", "-")}).encode()
+    return json.dumps(members(kind, fields) | ({"ref": ref} if ref else {})).encode()
+
+
+def steps_body(steps: Sequence[Step]) -> bytes:
+    return json.dumps([members(kind, fields) for kind, *fields in steps]).encode()
+
+
+def members(kind: str, fields: Sequence[str]) -> dict[str, str]:
+    return {name: text for name, text in members_of(kind, fields).items() if text not in ("", "-")}
 
 
 def moves_in(reply: dict[str, Any]) -> Moves:
@@ -83,10 +92,24 @@ def supply_in(answer: Answer) -> Supply:
 def plan_in(answer: Answer) -> Plan:
     """Raises the refusal that the command would have."""
     if answer.status == 404:
-        raise Away("the program of the book's server is older than this screen: it doesn't plan changes")
+        raise Away(f"{TOO_OLD} changes")
     told = answer.json()
     if answer.status != 200:
         raise NotPlanned(told)
+    return plan_of(told)
+
+
+def plans_in(answer: Answer) -> list[Plan]:
+    """What each of some steps would do. Raises the refusal of the first that would have one, with its place."""
+    told = answer.json() if answer.status == 200 else None
+    if not isinstance(told, list):
+        raise Away(f"{TOO_OLD} steps")
+    if told and "refused" in told[-1]:
+        raise NotPlanned({**told[-1], "step": len(told) - 1})
+    return [plan_of(each) for each in told]
+
+
+def plan_of(told: dict[str, Any]) -> Plan:
     changes = [SectionChange(row["section"], spans(row["before"]), spans(row["after"])) for row in told["sections"]]
     return Plan(moves_in(told), changes)
 

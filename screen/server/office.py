@@ -9,7 +9,7 @@ from pathlib import Path
 from typing import Any
 
 from . import refusals, views
-from .answers import Plan, Supply, command_body, moves_in, plan_in, supply_in
+from .answers import Plan, Step, Supply, command_body, moves_in, plan_in, plans_in, steps_body, supply_in
 from .apart import Apart, Kept
 from .commands import FIELDS, fields_of
 from .desk import IMPORT_SECONDS, Answer, Away, Desk
@@ -241,6 +241,13 @@ class Office:
             return plan_in(await self.desk.look("/plan", command_body(kind, fields)))
         except Away:
             return await self.copy.plan(kind, fields)
+
+    async def plan_steps(self, steps: Sequence[Step]) -> list[Plan]:
+        """What each of some steps would do on what those before it leave."""
+        try:
+            return plans_in(await self.desk.look("/plan", steps_body(steps)))
+        except Away:
+            return await self.copy.plan_steps(steps)
 
     async def view(self, route: str) -> Any:
         """One of the desk's views, as JSON."""

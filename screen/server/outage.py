@@ -3,16 +3,16 @@
 import json
 from collections import defaultdict
 from collections.abc import Sequence
-from itertools import chain
+from dataclasses import replace
+from itertools import chain, zip_longest
 
-from .answers import NotPlanned
+from .answers import NotPlanned, Outage, Plan, Step, Supply
 from .commands import FIELDS
 from .desk import Away
 from .forecasts import changes_of, forecast_view, notes_of, refusal_words, second_of
 from .names import outage_in
 from .office import Office
 from .reader import Entry, Moves
-from .deskcopy import Step, Tried
 from .state import NotNow, Refused, State
 from .views import Json, entry_view, reference_of
 
@@ -41,24 +41,20 @@ def is_step(found: object) -> bool:
 
 
 async def forecast(office: Office, steps: Sequence[Step]) -> Json:
-    """What some steps would do, as they were tried on a copy of the desk: each on what those before it in time leave, all
-    together, and what each moves in the order in which they are sent."""
-    state, in_time = office.state, order_in_time(steps)
-    order = order_to_send(state, steps, in_time)
-    try:
-        tried, *sent = await office.copy.walk(state, steps, [in_time] if order == in_time else [in_time, order])
-    except NotPlanned as refused:
-        kind, *fields = steps[refused.reply["step"]]
-        raise Refused(f"step {refused.reply['step'] + 1}: {refusal_words(state, kind, fields, refused)}") from None
-    except Away as away:
-        raise NotNow(f"what these steps would do isn't known now, since they can't be tried: {away}") from None
-    rows, before = list[Json](), state
-    for place, step in zip(in_time, tried):
-        rows.append({**step_view(before, steps[place], step), "place": place})
-        before = before.after(*steps[place])
+    """What some steps would do: each on what those before it in time leave, all together, and what each moves in the order in
+    which they are sent."""
+    in_time = order_in_time(steps)
+    order = order_to_send(office.state, steps, in_time)
+    plans = await plans_of(office, steps, in_time)
+    sent = plans if order == in_time else await plans_of(office, steps, order)
+    rows, after = list[Json](), office.state
+    for count, place in enumerate(in_time):
+        second = second_of(steps[place][0], steps[place][1:])
+        supply = None if second is None else supply_on(after, await office.supply(second), office.state, plans[:count])
+        rows.append({**step_view(after, steps[place], plans[count], supply), "place": place})
+        after = after.after(*steps[place])
     kind, *fields = steps[in_time[0]]
-    plans = [each.plan for each in tried]
-    whole = forecast_view(state, kind, fields, added([plan.moves for plan in plans]), changes_of(plans))
+    whole = forecast_view(office.state, kind, fields, added([plan.moves for plan in plans]), changes_of(plans))
     return {
         **whole,
         "late": max(row["late"] for row in rows),
@@ -66,15 +62,44 @@ async def forecast(office: Office, steps: Sequence[Step]) -> Json:
         "words": "; ".join(row["words"] for row in rows),
         "steps": rows,
         "order": list(order),
-        "sent": [[list(move) for move in each.plan.moves] for each in (sent or [tried])[0]],
+        "sent": [[list(move) for move in plan.moves] for plan in sent],
     }
 
 
-def step_view(state: State, step: Step, tried: Tried) -> Json:
+async def plans_of(office: Office, steps: Sequence[Step], order: Sequence[int]) -> list[Plan]:
+    """What the steps would do in an order. One that is refused is named by its place on the page."""
+    try:
+        return await office.plan_steps([steps[place] for place in order])
+    except NotPlanned as refused:
+        place = order[refused.reply["step"]]
+        kind, *fields = steps[place]
+        raise Refused(f"step {place + 1}: {refusal_words(office.state, kind, fields, refused)}") from None
+    except Away as away:
+        raise NotNow(f"what these steps would do isn't known now: {away}") from None
+
+
+def supply_on(state: State, supply: Supply, before: State, plans: Sequence[Plan]) -> Supply:
+    """The supply at a second on what steps leave, by the book's own: sections as the steps' plans have them, and devices as the
+    entries that were made or changed since have them."""
+    second, changed = supply.second, {row.section: row.after for plan in plans for row in plan.changes}
+    spans = ((section, *span) for section, after in changed.items() for span in after)
+    outages = [row for row in supply.outages if row.section not in changed]
+    outages += [outage_at(state, second, *span) for span in spans if span[1] <= second < span[2]]
+    touched = {now.device for now, was in zip_longest(state.entries, before.entries) if now is not was}
+    closed = {state.devices[number].name: state.is_closed(number, second) for number in touched}
+    return replace(supply, outages=outages, closed=supply.closed | closed)
+
+
+def outage_at(state: State, second: int, section: str, since: int, until: int, entry: int) -> Outage:
+    cause = state.entries[entry - 1].cause if entry else 0
+    return Outage(section, since, until, entry, cause, state.customers_at(state.node_numbers[section], second))
+
+
+def step_view(state: State, step: Step, plan: Plan, supply: Supply | None) -> Json:
     """What a step would do; of the sections those whose supply changes at its second, and not only later on."""
     kind, *fields = step
-    shown = forecast_view(state, kind, fields, tried.plan.moves, changes_of([tried.plan]))
-    shown |= notes_of(state, kind, fields, tried.before, bool(shown["sections"]))
+    shown = forecast_view(state, kind, fields, plan.moves, changes_of([plan]))
+    shown |= notes_of(state, kind, fields, supply, bool(shown["sections"]))
     second = second_of(kind, fields)
     shown["sections"] = [row for row in shown["sections"] if second in (None, row["since"]["second"])]
     return {name: shown[name] for name in SHOWN}

@@ -107,11 +107,10 @@ def moves_of(database: sqlite3.Connection, number: int) -> Moves:
     return [(DIMENSIONS[dim], key, delta) for dim, key, delta in rows]
 
 
-def counts_of(copy: Path) -> tuple[int, int]:
-    """How many commands and entries a copy of a book has."""
+def last_command(copy: Path) -> int:
+    """How many commands a copy of a book has."""
     with closing(sqlite3.connect(f"{copy.as_uri()}?mode=ro", uri=True)) as database:
-        found = database.execute("SELECT (SELECT count(*) FROM cmd), (SELECT count(*) FROM entry)").fetchone()
-        return int(found[0]), int(found[1])
+        return int(database.execute("SELECT count(*) FROM cmd").fetchone()[0])
 
 
 def tool_words(tool: str) -> list[str]:

@@ -14,7 +14,6 @@ from .reader import Command, Device, Entry, Rows
 SECTION = 2
 LATE_SECONDS = 900
 KEPT_COMMANDS = 500
-MOST_ENTRIES = 50_000  # that a book takes
 Services = Counter[tuple[int, int | None]]  # customers by the seconds since which and until which they are in service
 
 
@@ -193,11 +192,15 @@ class State:
     def feeder_of(self, section: str) -> int:
         return self.nodes[self.node_numbers[section]][2]
 
-    def last_entry(self, device: Device, second: int, before: int = MOST_ENTRIES) -> Entry | None:
-        """The last kept entry of a device up to a second, of those in it one before the entry of a number."""
-        own = (each for each in self.entries if each.device == device.number and each.is_kept)
-        found = [each for each in own if (each.second, each.number) < (second, before)]
-        return max(found, key=lambda each: (each.second, each.number)) if found else None
+    def last_entry(self, device: Device, second: int) -> Entry | None:
+        """The last kept entry of a device up to a second."""
+        own = (each for each in self.entries if each.device == device.number and each.is_kept and each.second <= second)
+        return max(own, key=lambda each: (each.second, each.number), default=None)
+
+    def is_closed(self, number: int, second: int) -> bool:
+        """Whether a device is closed at a second, its life aside."""
+        last = self.last_entry(self.devices[number], second)
+        return last.closes if last else self.devices[number].is_closed
 
     def services_of(self, node: int) -> Services:
         """The customers of a section by their service; counted anew after one joins or is changed."""

@@ -118,7 +118,7 @@ class Forecasts(Case):
         after, steps = self.state, list[Step]()
         few = self.random.sample(range(len(after.entries)), 3)
         for _ in range(self.random.randint(2, 6)):
-            told = [self.random.choice(["open", "close"]), str(max(self.moment(), FIRST + 1)), "5", "CREW-3"]
+            told = [self.random.choice(["open", "close"]), str(self.moment()), "5", "CREW-3"]
             choices = [["switch", self.random.choice(self.state.devices).name, *told]]
             for entry in (after.entries[place] for place in few if after.entries[place].is_kept):
                 seen = [str(entry.number), str(entry.revision)]
@@ -143,7 +143,7 @@ class Forecasts(Case):
         self.assertEqual(sum(step["total"] for step in shown["steps"]), shown["total"])
 
     async def check_copy(self) -> None:
-        """The copy answers as the desk, also of entries that were made after others were tried in it."""
+        """The copy answers as the desk."""
         for second in (self.moment(), self.moment(), END - 1):
             supply = await self.office.supply(second)
             self.assertEqual(await self.copy.supply(second), supply)
@@ -179,26 +179,20 @@ class Forecasts(Case):
     async def test_steps_of_outages(self) -> None:
         self.random = random.Random(4)
         await self.begin(support.fortnight("steps"))
-        await self.check_copy()
-        process = self.copy.process
         for number in range(COMMANDS // 8):
             await self.act_on_steps(self.steps() if number % 2 else self.changes())
             await self.check_copy()
             await self.check_past()
         self.check_rows()
-        self.assertIs(self.copy.process, process)
 
     async def test_an_outage_is_taken_back(self) -> None:
-        """Withdrawals one after the other: what they move is what was forecast, and the copy is the same one. A step that is
-        refused is named, and those before it are taken back."""
+        """Withdrawals one after the other: what they move is what was forecast. A step that is refused is named."""
         await self.begin(support.fortnight("back"))
         self.random = random.Random(5)
         for step in (steps := self.steps()):
             await self.accept(*step)
         last = len(self.state.entries)
         undo = [["withdraw", str(last - place), "1"] for place in range(len(steps))]
-        await self.check_copy()
-        process = self.copy.process
         for refused, words in (
             (
                 [*undo, ["withdraw", str(last), "2"], ["withdraw", "1", "1"]],
@@ -210,9 +204,7 @@ class Forecasts(Case):
             with self.assertRaisesRegex(state.Refused, f"step {words}"):
                 await outage.forecast(self.office, refused)
         await self.act_on_steps(undo)
-        await self.check_copy()
         await self.check_past()
-        self.assertIs(self.copy.process, process)
 
     async def test_a_copy_that_fell_behind(self) -> None:
         """After more commands than it follows there is another copy."""
@@ -224,16 +216,17 @@ class Forecasts(Case):
                 await self.accept(*step)
             await self.check_copy()
 
-    async def test_no_copy_is_told(self) -> None:
-        """Without a copy nothing is guessed: the steps have no forecast, and it is said why."""
+    async def test_neither_server_nor_copy(self) -> None:
+        """Nothing is guessed: the steps have no forecast, and it is said why."""
         await self.begin(support.fortnight("no-copy"))
         self.copy.original = support.folder() / "none.db"
         self.copy.throw_away()
         step = ["switch", "CB-1", "open", str(FIRST + 60), "5", "CREW-3"]
+        self.assertIsNotNone(await outage.forecast(self.office, [step, step]))
+        self.desk.kill()
         with unittest.mock.patch("server.deskcopy.READY_SECONDS", 1.0):
-            with self.assertRaisesRegex(state.NotNow, "since they can't be tried: .*none.db"):
+            with self.assertRaisesRegex(state.NotNow, "isn't known now: .*none.db"):
                 await outage.forecast(self.office, [step, step])
-        self.assertIsNotNone(await self.forecast("switch", step[1:]))
 
     async def test_the_order_in_which_steps_are_sent(self) -> None:
         """Returns first where all is over, unless two steps have one second; else by time."""
