@@ -133,7 +133,7 @@ begin(async () => {
   main.append(
     lookOnly(),
     el("div", { class: "two" }, outage.form, el("div", { class: "card stays" }, outage.sender.element)),
-    foot(`What it would do, and the answer to what is sent, are ${source()}; the steps of an outage are tried on a copy of the book.`),
+    foot(`What it would do, and the answer to what is sent, are ${source()}.`),
   );
   onCommands(() => { outage.steps.forgetBook(); reloadBook(); });
   await outage.fill(fromAddress(["device", "at", "entry", "close"]));
