@@ -184,3 +184,28 @@ fn a_plan_changes_nothing(rt: HostRuntime) -> Result<(), Fail> {
     }
     take_all(&rt, rt.alloc(), &mut book, OUTAGE)
 }
+
+// Steps on the two feeders: an opening, its correction, and a closing of another breaker's name.
+const STEPS: &'static [&'static str] = &[
+    "switch B2 open 1704070800 4 K1",
+    "correct 1 1 open 1704070800 3 K1",
+    "switch X9 close 1704071400 4 K1",
+    "withdraw 1 2",
+];
+
+#[test]
+fn steps_are_planned_in_turn(rt: HostRuntime) -> Result<(), Fail> {
+    let mut book = counting_book(rt.alloc())?;
+    take_all(&rt, rt.alloc(), &mut book, TWO_FEEDERS)?;
+    let mut steps = Vec::new(rt.alloc());
+    for body in STEPS {
+        steps.push(read_body(body.as_bytes()).ok_or("a command")?)?;
+    }
+    let planned = book.plan_steps(&steps)?;
+    assert!(rt; planned.texts.len() == 2);
+    assert!(rt; planned.refused == Some(Refusal::UnknownName));
+    let first = book.plan_text(&steps[0])?;
+    assert!(rt; planned.texts[0] == first);
+    assert!(rt; planned.texts[1].starts_with(br#"{"moved":[["cause",3,414000],["cause",4,-414000]]"#));
+    take_all(&rt, rt.alloc(), &mut book, OUTAGE)
+}

@@ -12,7 +12,7 @@ POST /plan {"kind":"withdraw","f1":"3","f2":"2"} => 409 {"detail":1,"name":"Stal
 POST /plan {"kind":"withdraw","f1":"9","f2":"1"} => 422 {"name":"UnknownEntry","refused":6}
 POST /plan {"kind":"cause","f1":"64"} => 422 {"detail":3,"name":"BadField","refused":1}
 POST /plan {"kind":"cause","ref":"r1","f1":"64"} => 422 {"detail":2,"name":"BadField","refused":1}
-POST /plan [] => 422 {"detail":0,"name":"BadField","refused":1}
+POST /plan 7 => 422 {"detail":0,"name":"BadField","refused":1}
 GET /totals => 200 {"cause":[[3,9000]],"day":[[0,9000]],"feeder":[[1,9000]],"total":9000}
 GET /commands/26 => 404
 POST /commands {"kind":"withdraw","ref":"Z","f1":"3","f2":"1"} => 200 {"moved":[["cause",3,246600],["feeder",1,246600],["day",0,246600]],"no":26}
@@ -21,6 +21,25 @@ POST /commands {"kind":"withdraw","ref":"Z","f1":"3","f2":"1"} => 200 {"moved":[
 #[test]
 fn plans(rt: HostRuntime) -> Result<(), AllocError> {
     lines_are_answered(&rt, rt.alloc(), PLANS, Some(26))
+}
+
+// Steps, each on what those before it leave: the last of them corrects the entry that the first makes;
+// lists that a refusal, another command, or an item that says none ends; and then the book as it was.
+const STEPS: &'static str =
+    r#"POST /plan [] => 200 []
+POST /plan [{"kind":"switch","f1":"B1","f2":"open","f3":"1704080000","f4":"4","f5":"K1"},{"kind":"withdraw","f1":"4","f2":"1"}] => 200 []
+POST /plan [{"kind":"withdraw","f1":"3","f2":"1"},{"kind":"withdraw","f1":"3","f2":"2"}] => 200 [{"moved":[["cause",3,246600],["feeder",1,246600],["day",0,246600]],"sections":[{"after":[[1704070800,1704153600,1,3]],"before":[[1704070800,1704071400,1,3]],"section":"S2"}]},{"name":"Withdrawn","refused":8}]
+POST /plan [{"kind":"section","f1":"S9","f2":"9"}] => 200 [{"detail":1,"name":"BadField","refused":1}]
+POST /plan [{"kind":"withdraw","f1":"9","f2":"1"},7] => 200 [{"name":"UnknownEntry","refused":6}]
+POST /plan [7] => 200 [{"detail":0,"name":"BadField","refused":1}]
+GET /totals => 200 {"cause":[[3,9000]],"day":[[0,9000]],"feeder":[[1,9000]],"total":9000}
+GET /commands/26 => 404
+POST /commands {"kind":"withdraw","ref":"Z","f1":"3","f2":"1"} => 200 {"moved":[["cause",3,246600],["feeder",1,246600],["day",0,246600]],"no":26}
+"#;
+
+#[test]
+fn plans_of_steps(rt: HostRuntime) -> Result<(), AllocError> {
+    lines_are_answered(&rt, rt.alloc(), STEPS, Some(26))
 }
 
 // The first second of the outage, the one in which it has ended, and seconds outside the period.

@@ -1,7 +1,9 @@
 //! Tests of commands as JSON.
 use ob_base::{Refusal, Stop};
 use ob_command::{Command, body_text};
-use ob_http_replies::{json_commands_law, json_plans_law, read_command, read_plan};
+use ob_http_replies::{
+    json_commands_law, json_plans_law, read_command, read_plan, read_steps, steps_law,
+};
 use std::alloc::Global;
 use std::process::Abort;
 use std::test::Fail;
@@ -119,5 +121,39 @@ fn bodies_of_plans(rt: HostRuntime) -> Result<(), Fail> {
     for line in PLANS.lines() {
         plans(&rt, rt.alloc(), line)?;
     }
+    Ok(())
+}
+
+// Lists of steps, with the texts of the commands that they say, and the column that ends them.
+const STEPS: &'static str = r#"[] =>
+[{"kind":"withdraw","f1":"3","f2":"1"},{"kind":"bus","f1":"BUS-A"}] => withdraw 3 1;bus BUS-A
+[{"kind":"bus","f1":"BUS-A"},{"kind":"bus","f1":"b"},7] => bus BUS-A;3
+[7] => 0
+"#;
+
+fn steps(rt: &impl Abort, alloc: Global, line: &str) -> Result<(), Fail> {
+    let (body, wanted) = line.split_once(" =>").ok_or("a line")?;
+    let steps = read_steps(alloc, body.as_bytes())?.ok_or("a list")?;
+    let mut said = Vec::new(alloc);
+    for command in &steps.commands {
+        said.push(b';')?;
+        said.extend_from_slice(&body_text(alloc, command)?)?;
+    }
+    if let Some(Refusal::BadField(column)) = steps.unread {
+        said.push(b';')?;
+        said.push(column.saturating_add(b'0'))?;
+    }
+    assert!(rt; said.get(1..).unwrap_or(b"") == wanted.trim_start().as_bytes());
+    Ok(())
+}
+
+#[test]
+fn bodies_of_steps(rt: HostRuntime) -> Result<(), Fail> {
+    steps_law();
+    for line in STEPS.lines() {
+        steps(&rt, rt.alloc(), line)?;
+    }
+    assert!(rt; read_steps(rt.alloc(), b"{}")?.is_none());
+    assert!(rt; read_steps(rt.alloc(), b"[")?.is_none());
     Ok(())
 }
