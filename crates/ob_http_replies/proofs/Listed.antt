@@ -1,5 +1,5 @@
 -- The items of a JSON list, read as steps one after another.
-use Rattle.std.proofs.Common.{◌≡◌, ◌≤◌, ◌<◌, ◌+◌, ◌++◌, ◌∙◌, add-one, append_assoc, refl, ap, subst, sym, arith, drop, get_or, map, ℕ, suc, List, [], ◌∷◌, Option, Some, None, Result, Ok, Err, codes, length}
+use Rattle.std.proofs.Common.{◌≡◌, ◌≤◌, ◌<◌, ◌+◌, ◌++◌, ◌∙◌, add-one, append_assoc, refl, ap, subst, sym, arith, drop, get_or, map, ℕ, suc, List, [], ◌∷◌, Option, Some, None, Ok, Err, codes, length}
 use Rattle.std.proofs.Math.Seq.{drop-cons}
 use Rattle.std.proofs.lemmas.List.{append-nil, drop_all}
 use Rattle.std.specs.Option.{option_and_then}
@@ -8,7 +8,7 @@ use Rattle.serde_json.specs.Find.{as_array, as_object}
 use Rattle.serde_json.specs.View.{items_of}
 use Rattle.ob_base.specs.declared.stop.Refusal.{Refusal}
 use Rattle.ob_command.specs.declared.command.Command.{Command}
-use Rattle.ob_http_replies.specs.JsonCommands.{at_most_64, in_list, items_in, json_in, with_reference, AreSteps, IsObjectOf}
+use Rattle.ob_http_replies.specs.JsonCommands.{in_list, items_in, json_in, with_reference, AreSteps, IsObjectOf}
 
 pub listed : (ds : List Data) → in_list (items_of ds) ≡ ds
 listed [] = refl

@@ -1,10 +1,8 @@
-use Rattle.std.proofs.Common.{◌∙◌, ap, arith, map, rules, sym, List, Option, None, Some}
+use Rattle.std.proofs.Common.{arith, map, List}
 use Rattle.std.proofs.lemmas.List.{length-map}
-use Rattle.serde_json.specs.Data.{Data}
 use Rattle.serde_json.specs.View.{view}
 use Rattle.serde_json.specs.declared.value.Value.{Value}
 use Rattle.ob_http_replies.proofs.Listed.{few_items_in, many_items_in}
-use Rattle.ob_http_replies.specs.JsonCommands.{AreReadSteps}
 use Rattle.ob_http_replies.proofs.steps.read_steps.Goals as goal
 
 pub returns-then-len-gt-MOST_STEPS : goal.returns-then-len-gt-MOST_STEPS
