@@ -1,9 +1,12 @@
 -- Worked examples of replies, and of commands as JSON.
-use Rattle.std.proofs.Common.{◌≡◌, refl, ℕ, nat_lt, Bool, true, false, List, [], ◌∷◌, negsuc, Some, None, Result, Ok, Err, codes, arith}
+use Rattle.std.proofs.Common.{◌≡◌, refl, ℕ, nat_lt, Bool, true, false, List, [], ◌∷◌, negsuc, Option, Some, None, option_map, Result, Ok, Err, codes, arith}
 use Rattle.std.specs.List.{list_all}
+use Rattle.std.specs.Option.{option_and_then}
 use Rattle.std.specs.Str.{IsAscii}
 use Rattle.std.proofs.lemmas.Str.{IsUtf8-from_ascii, is_utf8-from_IsUtf8}
 use Rattle.std.proofs.lemmas.Str.Ascii.{IsAscii-nil, IsAscii-cons}
+use Rattle.serde_json.specs.Data.{Data, null, number, unsigned, string, object, member, no_members}
+use Rattle.serde_json.specs.Find.{as_array}
 use Rattle.serde_json.specs.Read.{read}
 use Rattle.serde_json.proofs.OnLiterals.{serde_json_on_literals}
 use Rattle.ob_base.specs.declared.Pos.TheVariants.{Opened}
@@ -14,8 +17,8 @@ use Rattle.ob_command.specs.declared.command.Command.TheVariants.{Cause as AddsC
 use Rattle.ob_post.specs.declared.Dim.TheVariants.{Cause, Feeder, Day}
 use Rattle.ob_post.specs.declared.Moved.{Moved}
 use Rattle.ob_sheet.specs.declared.Entry.{Entry}
-use Rattle.ob_http_replies.specs.Bodies.{accepted_text, entry_text, refused_text, report_text}
-use Rattle.ob_http_replies.specs.JsonCommands.{command_said, with_reference, IsJsonCommand, IsJsonPlan, IsValueOf}
+use Rattle.ob_http_replies.specs.Bodies.{accepted_text, entry_text, refused_text, report_text, steps_text}
+use Rattle.ob_http_replies.specs.JsonCommands.{at_most_64, command_said, in_list, items_in, with_reference, AreSteps, IsJsonCommand, IsJsonPlan, IsValueOf}
 use Rattle.ob_http_replies.specs.Reply.{reply_text}
 use Rattle.ob_http_replies.specs.declared.reply.MediaType.TheVariants.{Json}
 use Rattle.ob_http_replies.specs.declared.status.Allow.TheVariants.{Post}
@@ -60,6 +63,14 @@ went_through = refl
 stopped : report_text 3 0 (Some (4, NameTaken)) ≡ codes "{\"added\":3,\"again\":0,\"stopped\":{\"name\":\"NameTaken\",\"refused\":3,\"row\":4}}"
 unfolding replies_on_literals serde_json_on_literals
 stopped = refl
+
+-- two plans, and why there is no third
+plans_and_a_refusal : steps_text (codes "{}" ∷ codes "1" ∷ []) (Some (Stale 2)) ≡ codes "[{},1,{\"detail\":2,\"name\":\"Stale\",\"refused\":7}]"
+unfolding replies_on_literals serde_json_on_literals
+plans_and_a_refusal = refl
+
+no_plans : steps_text [] None ≡ codes "[]"
+no_plans = refl
 
 abbrev opening : Entry
 opening = record { «no» = 1; rev = 1; device = 1; pos = Opened; second = 1704070800; cause = 3; crew = codes "K1"; kept = true }
@@ -135,3 +146,26 @@ with_a_bad_one = as_a_plan _ (Err (BadField 2)) refl (Err (BadField 2), refl, re
 with_a_number : IsJsonPlan (codes "{\"kind\":\"cause\",\"ref\":1,\"f1\":\"3\",\"f2\":\"STORM\"}") (Err (BadField 2))
 unfolding is_ascii serde_json_on_literals
 with_a_number = as_a_plan _ (Err (BadField 2)) refl (Err (BadField 2), refl, refl)
+
+-- an ASCII body has the items of its value
+in_ascii : (body : List ℕ) (items : Option (List Data)) → list_all is_ascii body ≡ true → at_most_64 (option_map in_list (option_and_then as_array (read body))) ≡ items → items_in body ≡ items
+in_ascii body items ascii are = rw (is_utf8-from_IsUtf8 body (IsUtf8-from_ascii body (from_test body ascii))) are
+
+abbrev a_cause : Data
+a_cause =
+    object (member (codes "f1") (string (codes "3")) (member (codes "f2") (string (codes "STORM")) (member (codes "kind") (string (codes "cause")) no_members)))
+
+-- the items of a list
+three_items : items_in (codes "[{\"kind\":\"cause\",\"f1\":\"3\",\"f2\":\"STORM\"},1,null]") ≡ Some (a_cause ∷ number (unsigned 1) ∷ null ∷ [])
+unfolding is_ascii serde_json_on_literals
+three_items = in_ascii _ _ refl refl
+
+no_list : items_in (codes "{}") ≡ None
+unfolding is_ascii serde_json_on_literals
+no_list = in_ascii _ _ refl refl
+
+-- what they say, up to the one that says no command
+a_step : AreSteps (a_cause ∷ number (unsigned 1) ∷ null ∷ []) (AddsCause 3 (codes "STORM") ∷ []) (Some (BadField 0))
+unfolding serde_json_on_literals
+a_step =
+    (Ok (codes "-", AddsCause 3 (codes "STORM")), (Ok (codes "-", AddsCause 3 (codes "STORM")), (Ok (AddsCause 3 (codes "STORM")), refl, refl), refl), (refl, (Err (BadField 0), refl, (refl, refl))))

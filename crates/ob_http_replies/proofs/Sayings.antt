@@ -1,12 +1,12 @@
 -- A JSON body says one thing, since a row does.
-use Rattle.std.proofs.Common.{◌≡◌, ◌∙◌, ap, sym, ℕ, Bool, true, false, List, [], ◌∷◌, Option, Some, None, unwrap_or, Result, Err, codes, MatchBool}
+use Rattle.std.proofs.Common.{◌≡◌, ◌∙◌, ap, subst, sym, ℕ, Bool, true, false, List, [], ◌∷◌, Option, Some, None, unwrap_or, Result, Ok, Err, codes, MatchBool}
 use Rattle.serde_json.specs.Data.{Data, Members}
 use Rattle.serde_json.specs.Find.{as_object, get}
 use Rattle.ob_base.specs.declared.stop.Refusal.{Refusal}
 use Rattle.ob_base.specs.declared.stop.Refusal.TheVariants.{BadField}
 use Rattle.ob_command.specs.Fields.{RowsSayOneThing}
 use Rattle.ob_command.specs.declared.command.Command.{Command}
-use Rattle.ob_http_replies.specs.JsonCommands.{are_columns, command_said, first_textless, json_in, leftmost, text_of, texts_of, with_reference, AreTextsOf, IsObjectOf, IsValueOf, JsonCommandsSayOneThing, JsonPlansSayOneThing}
+use Rattle.ob_http_replies.specs.JsonCommands.{are_columns, command_said, first_textless, json_in, leftmost, text_of, texts_of, with_reference, AreSteps, AreTextsOf, GoesOn, IsObjectOf, IsValueOf, JsonCommandsSayOneThing, JsonPlansSayOneThing, StepsSayOneThing}
 
 abbrev Said : Type 0
 Said = Result (List ℕ × Command) Refusal
@@ -51,9 +51,31 @@ pub one_saying : RowsSayOneThing → JsonCommandsSayOneThing
 one_saying rows body a b x y =
     value_one (λ texts. texts) (λ d. texts_one rows (text (codes "kind") d) (text (codes "ref") d) (text (codes "f1") d) (text (codes "f2") d) (text (codes "f3") d) (text (codes "f4") d) (text (codes "f5") d) (text (codes "f6") d)) (json_in body) a b x y
 
+-- the texts of a value, with `-` in the place of an empty reference, say one thing
+plans_one : RowsSayOneThing → FilledSayOneThing (with_reference (codes "-"))
+plans_one rows d a b x y =
+    filled_one rows (codes "-") (text (codes "kind") d) (text (codes "ref") d) (text (codes "f1") d) (text (codes "f2") d) (text (codes "f3") d) (text (codes "f4") d) (text (codes "f5") d) (text (codes "f6") d) a b x y
+
 pub one_plan : RowsSayOneThing → JsonPlansSayOneThing
 one_plan rows body a b x y =
     x.2
-    ∙ ap (λ (said : Said). command_said said)
-    (value_one (with_reference (codes "-")) (λ d. filled_one rows (codes "-") (text (codes "kind") d) (text (codes "ref") d) (text (codes "f1") d) (text (codes "f2") d) (text (codes "f3") d) (text (codes "f4") d) (text (codes "f5") d) (text (codes "f6") d)) (json_in body) x.0 y.0 x.1 y.1)
+    ∙ ap (λ (said : Said). command_said said) (value_one (with_reference (codes "-")) (plans_one rows) (json_in body) x.0 y.0 x.1 y.1)
     ∙ sym y.2
+
+-- what goes on says one thing, if the rest does
+goes_one : (said : Said) (Rest : List Command → Option Refusal → Type 0)
+    → ((some others : List Command) (r s : Option Refusal) → Rest some r → Rest others s → (some ≡ others) × (r ≡ s))
+    → (some others : List Command) (r s : Option Refusal) → GoesOn said Rest some r → GoesOn said Rest others s → (some ≡ others) × (r ≡ s)
+goes_one (Ok said) Rest one [] others r s x y = absurd x
+goes_one (Ok said) Rest one (command ∷ commands) [] r s x y = absurd y
+goes_one (Ok said) Rest one (command ∷ commands) (other ∷ others) r s x y =
+    let rest : (commands ≡ others) × (r ≡ s) = one commands others r s x.1 y.1 in
+    let first : command ≡ other = x.0 ∙ sym y.0 in
+    (cc, rest.1)
+goes_one (Err refusal) Rest one some others r s x y = (x.0 ∙ sym y.0, x.1 ∙ sym y.1)
+
+pub steps_one : RowsSayOneThing → StepsSayOneThing
+steps_one rows [] some others r s x y = (x.0 ∙ sym y.0, x.1 ∙ sym y.1)
+steps_one rows (d ∷ ds) some others r s x y =
+    let same : x.0 ≡ y.0 = object_one (with_reference (codes "-")) (plans_one rows) (as_object d) d x.0 y.0 x.1 y.1 in
+    goes_one y.0 (AreSteps ds) (steps_one rows ds) some others r s (subst (λ (said : Said). GoesOn said (AreSteps ds) some r) same x.2) y.2

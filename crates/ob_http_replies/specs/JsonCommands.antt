@@ -1,5 +1,5 @@
 -- Commands as JSON, RFC 8259: an object whose members are texts under the names of a row's columns. A plan's may lack the reference.
-use Rattle.std.specs.Prelude.{◌≡◌, ℕ, ◌+◌, ◌&&◌, nat_le, Bool, true, List, [], ◌∷◌, length, map, min, Option, Some, None, option_map, Result, Ok, Err, codes, unwrap_or, if◌then◌else◌, MatchBool}
+use Rattle.std.specs.Prelude.{⊤, ◌≡◌, ℕ, ◌+◌, ◌&&◌, nat_le, Bool, true, List, [], ◌∷◌, length, map, min, Option, Some, None, option_map, Result, Ok, Err, codes, unwrap_or, if◌then◌else◌, MatchBool}
 use Rattle.std.specs.Option.{option_and_then}
 use Rattle.std.specs.List.{list_any}
 use Rattle.std.specs.Str.{bytes_eq, is_utf8}

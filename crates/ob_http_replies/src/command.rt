@@ -78,7 +78,10 @@ pub(crate) fn json(alloc: Global, body: &[u8]) -> Result<Option<Value>, Stop>
     }
 }
 
-pub(crate) fn command_of<'v>(value: &'v Value, reference: &'v [u8]) -> Result<(Ref, Command), Refusal>
+pub(crate) fn command_of<'v>(
+    value: &'v Value,
+    reference: &'v [u8],
+) -> Result<(Ref, Command), Refusal>
     ensures { IsObjectOf (with_reference reference.now) (as_object (view value.now))
         (view value.now) result }
 {

@@ -1,6 +1,5 @@
 //! Reads the steps of a plan from a JSON list, RFC 8259.
-ghost use Rattle.std.specs.Prelude.{◌≡◌, IfErr, IfOk};
-ghost use Rattle.ob_base.specs.Stop.{out_of_memory};
+ghost use Rattle.std.specs.Prelude.{◌≡◌, IfOk, map};
 ghost use Rattle.serde_json.specs.View.{view};
 ghost use Rattle.ob_http_replies.specs.JsonCommands.{AreSteps, ReadsSteps, StepsSayOneThing};
 
