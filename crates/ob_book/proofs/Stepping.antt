@@ -12,7 +12,7 @@ use Rattle.ob_sweep.specs.declared.change.Change.{Change}
 use Rattle.ob_time.specs.Calendar.{Calendar}
 use Rattle.ob_command.specs.declared.command.Command.{Command}
 use Rattle.ob_json.specs.Plans.{Forecast, forecast_text}
-use Rattle.ob_state.specs.Logs.{is_of_log, log_of, with_log}
+use Rattle.ob_state.specs.Logs.{LogValue, is_of_log, log_of, with_log}
 use Rattle.ob_state.specs.Next.{next}
 use Rattle.ob_state.specs.Refusals.{refusal}
 use Rattle.ob_state.specs.Searches.{all_searches, most_searches}
@@ -91,9 +91,9 @@ go_on bound was now then steps i x texts text going l e none then_is log few is 
     let counted_here = searches_from bound then.state (next now.state x) rest then_is in
     record {
       texts_are =
-        going.texts_are
-            ∙ ap (λ (ts : List (List ℕ)). texts ++ ts) (one.0 ∙ ap (λ (t : List ℕ). t ∷ texts_in_turn (next now.state x) rest) (sym is) ∙ ap (λ (ts : List (List ℕ)). text ∷ ts) here)
-            ∙ sym (append_assoc texts (text ∷ []) (texts_in_turn then.state rest));
+          going.texts_are
+          ∙ ap (λ (ts : List (List ℕ)). texts ++ ts) (one.0 ∙ ap (λ (t : List ℕ). t ∷ texts_in_turn (next now.state x) rest) (sym is) ∙ ap (λ (ts : List (List ℕ)). text ∷ ts) here)
+          ∙ sym (append_assoc texts (text ∷ []) (texts_in_turn then.state rest));
       refused = going.refused ∙ one.1 ∙ ap (λ (b : BookState). (plans_in_turn b rest).refused) (sym then_is);
       log = still_log was.state now.state then.state going.log log;
       searches = omega (arith, counted, counted_here, few, going.searches);
@@ -104,3 +104,7 @@ pub few_so_far : (bound : Network → List Entry → Calendar → Change → ℕ
     → IsGoing bound was now steps (drop i steps) texts → i < length steps → x ≡ get_or steps i x → then.searches ≤ now.searches + most_searches bound now.state x
     → then.searches ≤ was.searches + all_searches bound was.state steps
 few_so_far bound was now then steps i x texts going l e few = omega (arith, searches_step bound now.state steps i x l e, few, going.searches)
+
+-- with its earlier log a state is what it was
+pub back_again : (b c : BookState) (log : LogValue) → c ≡ with_log b (log_of c) → log ≡ log_of b → with_log c log ≡ b
+back_again b c log e f = ap (λ (s : BookState). with_log s log) e ∙ ap (with_log b) f

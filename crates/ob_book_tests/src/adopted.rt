@@ -206,6 +206,8 @@ fn steps_are_planned_in_turn(rt: HostRuntime) -> Result<(), Fail> {
     assert!(rt; planned.refused == Some(Refusal::UnknownName));
     let first = book.plan_text(&steps[0])?;
     assert!(rt; planned.texts[0] == first);
-    assert!(rt; planned.texts[1].starts_with(br#"{"moved":[["cause",3,414000],["cause",4,-414000]]"#));
+    assert!(rt;
+        planned.texts[1].starts_with(br#"{"moved":[["cause",3,414000],["cause",4,-414000]]"#)
+    );
     take_all(&rt, rt.alloc(), &mut book, OUTAGE)
 }

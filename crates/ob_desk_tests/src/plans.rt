@@ -25,8 +25,7 @@ fn plans(rt: HostRuntime) -> Result<(), AllocError> {
 
 // Steps, each on what those before it leave; lists that a refusal, another command, or an item that
 // says no command ends; and then the book as it was.
-const STEPS: &'static str =
-    r#"POST /plan [] => 200 []
+const STEPS: &'static str = r#"POST /plan [] => 200 []
 POST /plan [{"kind":"switch","f1":"B1","f2":"open","f3":"1704080000","f4":"4","f5":"K1"},{"kind":"withdraw","f1":"4","f2":"1"}] => 200 [{"moved":[["cause",4,147200],["feeder",1,147200],["day",0,147200]],"sections":[{"after":[[1704070800,1704074400,1,3],[1704080000,1704153600,5,4]],"before":[[1704070800,1704074400,1,3]],"section":"S1"}]},{"moved":[["cause",3,158400],["cause",4,-147200],["feeder",1,11200],["day",0,11200]],"sections":[{"after":[[1704070800,1704153600,1,3]],"before":[[1704070800,1704074400,1,3],[1704080000,1704153600,5,4]],"section":"S1"}]}]
 POST /plan [{"kind":"withdraw","f1":"3","f2":"1"},{"kind":"withdraw","f1":"3","f2":"2"}] => 200 [{"moved":[["cause",3,246600],["feeder",1,246600],["day",0,246600]],"sections":[{"after":[[1704070800,1704153600,1,3]],"before":[[1704070800,1704071400,1,3]],"section":"S2"}]},{"name":"Withdrawn","refused":8}]
 POST /plan [{"kind":"section","f1":"S9","f2":"9"}] => 200 [{"detail":1,"name":"BadField","refused":1}]
