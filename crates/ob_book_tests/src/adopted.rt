@@ -5,6 +5,7 @@ use crate::example::act_on;
 use crate::feeders::{OUTAGE, TWO_FEEDERS};
 use crate::lives::{BREAKER_GONE, JOINS_IN_OUTAGE, OPENED_IN_ITS_LAST_SECOND, TIE_GOES};
 use crate::runs::{OPENED_BEFORE, RELABELLED};
+use ob_base::Refusal;
 use ob_book::Book;
 use ob_command::read_body;
 use ob_state::Resolved;

@@ -1,7 +1,7 @@
 //! Laws of all answers.
 ghost use Rattle.ob_http_routes.specs.Answers.{BooklessAnswersStay, RequestsAreAnsweredOneThing};
 
-use ob_http_replies::{json_commands_law, json_plans_law};
+use ob_http_replies::{json_commands_law, json_plans_law, steps_law};
 use ob_import::import_law;
 
 /// States that a request has exactly one answer, which leaves exactly one state, and that an answer
@@ -12,5 +12,6 @@ pub fn answers_law()
 {
     json_commands_law();
     json_plans_law();
+    steps_law();
     import_law();
 }
