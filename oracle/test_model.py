@@ -11,6 +11,7 @@ import contextlib
 import sqlite3
 import subprocess
 import sys
+import json
 import unittest
 from collections import Counter
 from fractions import Fraction
@@ -515,6 +516,25 @@ class Plans(unittest.TestCase):
         refused = '{"detail":1,"name":"Stale","refused":7}'
         body = b'{"kind":"withdraw","f1":"3","f2":"2"}'
         self.assertEqual(answer_of(book, Request("POST", "/plan", body)), (409, "application/json", refused))
+
+    def test_steps(self) -> None:
+        """Each step on what those before it leave, up to one that is refused, isn't about an entry, or says nothing."""
+        book = base()
+        act(book, TIE_RESTORES)
+        first = json.loads(PLAN)
+        again: dict[str, object] = {"name": "Withdrawn", "refused": 8}
+        step = {"kind": "withdraw", "f1": "3", "f2": "1"}
+        for items, ends in (
+            ([], []),
+            ([step, {**step, "f2": "2"}], [first, again]),
+            ([step, {"kind": "bus", "f1": "A"}], [first, {"detail": 1, "name": "BadField", "refused": 1}]),
+            ([7, step], [{"detail": 0, "name": "BadField", "refused": 1}]),
+        ):
+            status, _, text = answer_of(book, Request("POST", "/plan", json.dumps(items).encode()))
+            self.assertEqual((status, json.loads(text)), (200, ends))
+        status, _, _ = answer_of(book, Request("POST", "/plan", json.dumps([step] * 65).encode()))
+        self.assertEqual(status, 422)
+        self.assertEqual(book.accepted(), 25)
 
 
 class Supplies(unittest.TestCase):

@@ -13,7 +13,19 @@ from itertools import chain
 from pathlib import Path
 from typing import Any
 
-from .answers import NotPlanned, Plan, SectionChange, Step, Supply, command_body, moves_in, plan_in, plans_in, steps_body, supply_in
+from .answers import (
+    NotPlanned,
+    Plan,
+    SectionChange,
+    Step,
+    Supply,
+    command_body,
+    moves_in,
+    plan_in,
+    plans_in,
+    steps_body,
+    supply_in,
+)
 from .apart import Apart
 from .desk import Answer, Away, Desk, OwnDesk
 from .reader import BookError, Command, Moves, copy_of, last_command

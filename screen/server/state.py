@@ -194,8 +194,9 @@ class State:
 
     def last_entry(self, device: Device, second: int) -> Entry | None:
         """The last kept entry of a device up to a second."""
-        own = (each for each in self.entries if each.device == device.number and each.is_kept and each.second <= second)
-        return max(own, key=lambda each: (each.second, each.number), default=None)
+        own = (each for each in self.entries if each.device == device.number and each.is_kept)
+        found = [each for each in own if each.second <= second]
+        return max(found, key=lambda each: (each.second, each.number)) if found else None
 
     def is_closed(self, number: int, second: int) -> bool:
         """Whether a device is closed at a second, its life aside."""
