@@ -16,7 +16,7 @@ use Rattle.ob_http_replies.specs.Bodies.{steps_text}
 use Rattle.ob_http_replies.specs.JsonCommands.{AreReadSteps, IsJsonPlan, ReadsJsonPlan, items_in}
 use Rattle.ob_http_replies.specs.declared.steps.Steps.{Steps}
 use Rattle.ob_http_replies.specs.declared.reply.MediaType.TheVariants.{Json}
-use Rattle.ob_http_routes.specs.Answers.{Answer, IsAnswerPlanned, IsPlanAnswer, first_refusal, found, refused, steps_planned}
+use Rattle.ob_http_routes.specs.Answers.{Answer, IsAnswerPlanned, IsPlanAnswer, found, refused, steps_planned}
 
 -- a body that says no command
 pub unread_plan : {X : Type 0} (b : BookState) (body : List ℕ) (stop : Stop) (r : Refusal) → ReadsJsonPlan body (Err stop) → ◌≡◌ {A = Result X Stop} (Err stop) (Err (Refused r))

@@ -1,5 +1,6 @@
 -- What the desk answers a request, and the state of the book after it.
 use Rattle.std.specs.Prelude.{◌≡◌, ℕ, Bool, List, [], map, Option, Some, None, option_map, unwrap_or, slice_get, Result, Ok, Err}
+use Rattle.std.specs.Option.{option_or}
 use Rattle.serde_json.specs.Data.{Data}
 use Rattle.ob_base.specs.declared.stop.Refusal.{Refusal}
 use Rattle.ob_sheet.specs.declared.Entry.{Entry}
@@ -137,14 +138,9 @@ abbrev pub plan_answer : BookState → Result Command Refusal → Answer
 plan_answer b (Ok command) = planned (plan_of b command)
 plan_answer b (Err refusal) = refused refusal
 
--- why the steps of a list end before its end, if they do: the next one is refused in its turn, or else says no command
-abbrev pub first_refusal : Option Refusal → Option Refusal → Option Refusal
-first_refusal (Some refusal) unread = Some refusal
-first_refusal None unread = unread
-
--- the answer to steps that are planned so, where the next item says no command for a reason, or there is none
+-- the answer to steps that are planned so, and end where one is refused, or else where an item says no command
 abbrev pub steps_planned : StepPlans → Option Refusal → Answer
-steps_planned p unread = found types.Json (Some (steps_text (map forecast_text p.forecasts) (first_refusal p.refused unread)))
+steps_planned p unread = found types.Json (Some (steps_text (map forecast_text p.forecasts) (option_or p.refused unread)))
 
 -- this is the answer to a body of these items, or to one that is no list of steps and says which command is to be planned
 abbrev pub IsAnswerPlanned : BookState → List ℕ → Option (List Data) → Answer → Type 0
