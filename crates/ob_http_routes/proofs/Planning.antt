@@ -10,8 +10,8 @@ use Rattle.ob_state.specs.State.{BookState}
 use Rattle.ob_book.specs.Forecasts.{forecast_text_of}
 use Rattle.serde_json.specs.Data.{Data}
 use Rattle.ob_json.specs.Plans.{forecast_text}
-use Rattle.ob_book.specs.Steps.{ArePlanned, plans_in_turn}
-use Rattle.ob_book.specs.declared.steps.Planned.{Planned}
+use Rattle.std.specs.Option.{option_or}
+use Rattle.ob_book.specs.Steps.{StepPlans, plans_in_turn}
 use Rattle.ob_http_replies.specs.Bodies.{steps_text}
 use Rattle.ob_http_replies.specs.JsonCommands.{AreReadSteps, IsJsonPlan, ReadsJsonPlan, items_in}
 use Rattle.ob_http_replies.specs.declared.steps.Steps.{Steps}
@@ -65,3 +65,19 @@ pub made_one : {X : Type 0} (items : X → List ℕ) (b : BookState) (body : Lis
     → IfOk result (λ x. IsAnswerPlanned b body None (found Json (Some (items x)))) → IfOk result (λ x. IsPlanAnswer b body (found Json (Some (items x))))
 made_one items b body (Ok x) none h = of_one b body (found Json (Some (items x))) none h
 made_one items b body (Err stop) none h = tt
+
+-- the text that is made for steps
+pub made_steps : {X : Type 0} (items : X → List ℕ) (p : StepPlans) (texts : List (List ℕ)) (refusal unread : Option Refusal) (result : Result X Stop)
+    → texts ≡ map forecast_text p.forecasts → refusal ≡ p.refused → IfOk result (λ x. items x ≡ steps_text texts (option_or refusal unread))
+    → IfOk result (λ x. found Json (Some (items x)) ≡ steps_planned p unread)
+made_steps items p texts refusal unread (Ok x) e f is =
+    ap (λ (body : List ℕ). found Json (Some body))
+    (is ∙ ap (λ (ts : List (List ℕ)). steps_text ts (option_or refusal unread)) e ∙ ap (λ (r : Option Refusal). steps_text (map forecast_text p.forecasts) (option_or r unread)) f)
+made_steps items p texts refusal unread (Err stop) e f is = tt
+
+-- what is planned of a list that was read
+pub made_list : {X : Type 0} (items : X → List ℕ) (b : BookState) (body : List ℕ) (steps : Steps) (result : Result X Stop) → AreReadSteps (items_in body) (Some steps)
+    → IfOk result (λ x. found Json (Some (items x)) ≡ steps_planned (plans_in_turn b steps.commands.items) steps.unread)
+    → IfOk result (λ x. IsPlanAnswer b body (found Json (Some (items x))))
+made_list items b body steps (Ok x) reads is = of_steps b body (items_in body) steps (found Json (Some (items x))) refl reads is
+made_list items b body steps (Err stop) reads is = tt
