@@ -1,7 +1,6 @@
-use Rattle.std.proofs.Common.{◌∙◌, sym, ap, Err, rules}
+use Rattle.std.proofs.Common.{◌∙◌, sym, ap, Err}
 use Rattle.std.proofs.lemmas.Result.{err_from_is_err_and}
-use Rattle.ob_http_replies.specs.declared.reply.MediaType.TheVariants.{Json}
-use Rattle.ob_http_routes.specs.Answers.{found, refused}
+use Rattle.ob_http_routes.specs.Answers.{refused}
 use Rattle.ob_http_routes.proofs.Planning.{made_one, made_plan, of_one, refused_plan, unread_plan}
 use Rattle.ob_http_routes.proofs.plan.plan_command.Goals as goal
 
